@@ -1,0 +1,4 @@
+pub mod Copies
+pub mod Classes
+pub mod Solve
+pub mod Newton

@@ -1,0 +1,10 @@
+pub mod CommRing
+pub mod Parts
+pub mod Whole
+pub mod RingMap
+pub mod Laws
+pub mod Below
+pub mod Euclid
+pub mod Modular
+pub mod Residues
+pub mod DualNumbers

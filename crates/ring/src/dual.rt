@@ -1,0 +1,91 @@
+// Numbers a + b e with e e = 0, over any ring.
+ghost use mathlib.Core.Path.{_≡_};
+ghost use Prim.Native.Nat.{_+_};
+ghost use Rattle.ring.specs.DualNumbers.{dual-map, duals, dual-parts, dual-parts-tell};
+ghost use Rattle.ring.specs.declared.dual.Dual.{Dual as Pair};
+use crate::ring::Ring;
+
+#[derive(Clone, Copy)]
+pub struct Dual<R> {
+    pub first: R,
+    pub second: R,
+}
+
+pub impl<R: Ring> Ring for Dual<R> as DualRing {
+    ghost Num = { Pair (R·Ring .Num) };
+
+    ghost ring = { duals (R·Ring .ring) };
+
+    ghost value = { dual-map (R·Ring .value) };
+
+    ghost count = { R·Ring .count + R·Ring .count };
+
+    ghost parts = { dual-parts (R·Ring .parts) };
+
+    ghost told = { dual-parts-tell (R·Ring .told) };
+
+    fn zero() -> Dual<R> {
+        Dual {
+            first: R::zero(),
+            second: R::zero(),
+        }
+    }
+
+    fn one() -> Dual<R> {
+        Dual {
+            first: R::one(),
+            second: R::zero(),
+        }
+    }
+
+    fn add(self, other: Dual<R>) -> Dual<R> {
+        Dual {
+            first: self.first.add(other.first),
+            second: self.second.add(other.second),
+        }
+    }
+
+    fn neg(self) -> Dual<R> {
+        Dual {
+            first: self.first.neg(),
+            second: self.second.neg(),
+        }
+    }
+
+    fn mul(self, other: Dual<R>) -> Dual<R> {
+        Dual {
+            first: self.first.mul(other.first),
+            second: self.first.mul(other.second).add(self.second.mul(other.first)),
+        }
+    }
+
+    fn equals(self, other: Dual<R>) -> bool {
+        self.first.equals(other.first) & self.second.equals(other.second)
+    }
+
+    fn inverse(self) -> Option<Dual<R>> {
+        let first = self.first.inverse()?;
+        Some(Dual {
+            first,
+            second: self.second.mul(first).mul(first).neg(),
+        })
+    }
+
+    fn part_count() -> usize {
+        R::part_count().saturating_add(R::part_count())
+    }
+
+    fn part(self, i: usize) -> Option<u32> {
+        match self.first.part(i) {
+            Some(part) => Some(part),
+            None => self.second.part(i - R::part_count()),
+        }
+    }
+
+    fn natural(n: u64) -> Dual<R> {
+        Dual {
+            first: R::natural(n),
+            second: R::zero(),
+        }
+    }
+}
