@@ -69,15 +69,14 @@ even-rest a odd =
 pub near-first :
     (a : ℕ) → a % 2 ≡ 1 → (x : Below (2 ^ 32))
     → x ≡ words .add (words .add (words .one) (words .one)) (words .neg (class a)) → Near 0 (class a) x
-near-first a odd x e =
-    (
-      words .mul h h,
-      ap (error words (class a)) e
+near-first a odd x e = (
+  words .mul h h,
+  ap (error words (class a)) e
       ∙ first-error words (class a)
       ∙ ap (λ y. words .mul y y) (even-rest a odd)
       ∙ squares words (class 2) h
       ∙ ap (λ y. words .mul y (words .mul h h)) (below-eq (words .mul (class 2) (class 2)) (class (2 ^ (2 ^ suc 0))) refl),
-    )
+)
   where
     h : Below (2 ^ 32)
     h = words .neg (class (a / 2))
@@ -89,15 +88,14 @@ twice-power i = ap (λ n. 2 ^ n) double ∙ pow-add 2 (2 ^ suc i) (2 ^ suc i)
     double = pow-suc 2 (suc i) ∙ mul-comm (2 ^ suc i) 2 ∙ two-mul (2 ^ suc i)
 
 pub near-next : (i : ℕ) (a x y : Below (2 ^ 32)) → y ≡ refined words a x → Near i a x → Near (suc i) a y
-near-next i a x y e n =
-    (
-      words .mul (n .0) (n .0),
-      ap (error words a) e
+near-next i a x y e n = (
+  words .mul (n .0) (n .0),
+  ap (error words a) e
       ∙ refined-error words a x
       ∙ ap (λ z. words .mul z z) (n .1)
       ∙ squares words c (n .0)
       ∙ ap (λ z. words .mul z (words .mul (n .0) (n .0))) (sym square),
-    )
+)
   where
     p : ℕ
     p = 2 ^ (2 ^ suc i)

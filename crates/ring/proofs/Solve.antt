@@ -18,11 +18,10 @@ pub data Term : Type 0 where
 
 infixl 60 _⊕_
 infixl 70 _⊗_
-
 abbrev pub _⊝_ : Term → Term → Term
 _⊝_ a b = a ⊕ opp b
-infixl 60 _⊝_
 
+infixl 60 _⊝_
 -- A sum of products, each with a sign, in an order that brings equal products together.
 record Part : Type 0 where
   plus : Bool
@@ -155,8 +154,8 @@ module _ {N : Type 0} (k : CommRing N) (at : ℕ → N) where
       meet true l e = refl
       meet false l e =
           sym (sym (add-assoc (part t) (part u) (total us))
-            ∙ ap (λ w. add w (total us)) (opposite (t .plus) (u .plus) (product (t .of)) (product (u .of)) l (ap product e))
-            ∙ zero-add k (total us))
+          ∙ ap (λ w. add w (total us)) (opposite (t .plus) (u .plus) (product (t .of)) (product (u .of)) l (ap product e))
+          ∙ zero-add k (total us))
 
       by : total (insert t us) ≡ add (part t) (total us) → (b : Bool) → same (t .of) (u .of) ≡ b → total (cond b (cond (like (t .plus) (u .plus)) (t ∷ u ∷ us) us) (cond (before (t .of) (u .of)) (t ∷ u ∷ us) (u ∷ insert t us))) ≡ add (part t) (total (u ∷ us))
       by r true e = meet (like (t .plus) (u .plus)) refl (same-eq (t .of) (u .of) e)

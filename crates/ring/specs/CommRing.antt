@@ -24,6 +24,9 @@ pub record CommRing (N : Type 0) : Type 0 where
   pub inverse-right : (x y : N) → inverse x ≡ Some y → mul x y ≡ one
   pub inverse-none : (x y : N) → inverse x ≡ None → mul x y ≡ one → ⊥
 
+abbrev pub difference : {N : Type 0} → CommRing N → N → N → N
+difference k x y = k .add x (k .neg y)
+
 -- a unit is a number that some number multiplies to one
 abbrev pub IsUnit : {N : Type 0} → CommRing N → N → Type 0
 IsUnit {N} k x = (y : N) × (k .mul x y ≡ k .one)

@@ -45,7 +45,7 @@ module _ {N : Type 0} (k : CommRing N) where
       let a = x .first in
       let b = x .second in
       let once : mul a (mul (mul b i) i) ≡ mul b i =
-          mul-comm a (mul (mul b i) i) ∙ mul-assoc (mul b i) i a ∙ ap (mul (mul b i)) (mul-comm i a ∙ e) ∙ mul-one (mul b i) in
+      mul-comm a (mul (mul b i) i) ∙ mul-assoc (mul b i) i a ∙ ap (mul (mul b i)) (mul-comm i a ∙ e) ∙ mul-one (mul b i) in
       dual-eq e
       (ap (λ w. add w (mul b i)) (mul-neg k a (mul (mul b i) i) ∙ ap neg once)
       ∙ add-comm (neg (mul b i)) (mul b i)
@@ -133,11 +133,10 @@ module _ {N : Type 0} (k : CommRing N) where
       (λ x y e h. k .inverse-none (x .first) y (none-first x (k .inverse (x .first)) h) e)
 
 append-told : {A : Type 0} (a b c d : List A) → length a ≡ length c → a ++ b ≡ c ++ d → (a ≡ c) × (b ≡ d)
-append-told a b c d l e =
-    (
-      sym (take-append-seam a b) ∙ ap (take (length a)) e ∙ ap (λ n. take n (c ++ d)) l ∙ take-append-seam c d,
-      sym (drop-append-seam a b) ∙ ap (drop (length a)) e ∙ ap (λ n. drop n (c ++ d)) l ∙ drop-append-seam c d,
-    )
+append-told a b c d l e = (
+  sym (take-append-seam a b) ∙ ap (take (length a)) e ∙ ap (λ n. take n (c ++ d)) l ∙ take-append-seam c d,
+  sym (drop-append-seam a b) ∙ ap (drop (length a)) e ∙ ap (λ n. drop n (c ++ d)) l ∙ drop-append-seam c d,
+)
 
 append-small : (m : ℕ) (a b : List ℕ) → ((i : ℕ) → getD a i 0 < m) → ((i : ℕ) → getD b i 0 < m) → (i : ℕ) → getD (a ++ b) i 0 < m
 append-small m [] b f g i = g i
@@ -163,7 +162,7 @@ dual-parts-tell {N} {count} {parts} p =
       told =
           λ x y e.
           let s =
-              append-told (parts (x .first)) (parts (x .second)) (parts (y .first)) (parts (y .second))
-              (p .counted (x .first) ∙ sym (p .counted (y .first))) e in
+          append-told (parts (x .first)) (parts (x .second)) (parts (y .first)) (parts (y .second))
+          (p .counted (x .first) ∙ sym (p .counted (y .first))) e in
           dual-eq (p .told (x .first) (y .first) (s .0)) (p .told (x .second) (y .second) (s .1));
     }

@@ -5,7 +5,7 @@ use native.Mathlib.Omega.{arith}
 use Rattle.std.specs.declared.option.Option.{Option}
 use Rattle.std.specs.declared.option.Option.the-variants.{Some, None}
 use Rattle.std.specs.Options.{mapped, Cases}
-use Rattle.ring.specs.CommRing.{CommRing}
+use Rattle.ring.specs.CommRing.{CommRing, difference}
 use Rattle.ring.specs.RingMap.{RingMap}
 
 module _ {N : Type 0} (k : CommRing N) where
@@ -30,6 +30,11 @@ module _ {N : Type 0} (k : CommRing N) where
   -- the negative is the only number that sums to zero
   pub neg-only : (x y : N) → add x y ≡ k .zero → y ≡ neg x
   neg-only x y e = cancel-left x y (neg x) (e ∙ sym (add-neg x))
+
+  -- a sum less its second term is its first
+  pub cancel-right : (x y z : N) → add x y ≡ z → x ≡ difference k z y
+  cancel-right x y z e =
+      sym (add-zero x) ∙ ap (add x) (sym (add-neg y)) ∙ sym (add-assoc x y (neg y)) ∙ ap (λ w. add w (neg y)) e
 
   pub mul-zero : (x : N) → mul x (k .zero) ≡ k .zero
   mul-zero x =

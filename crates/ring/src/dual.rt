@@ -1,7 +1,8 @@
 // Numbers a + b e with e e = 0, over any ring.
 ghost use mathlib.Core.Path.{_≡_};
 ghost use Prim.Native.Nat.{_+_};
-ghost use Rattle.ring.specs.DualNumbers.{dual-map, duals, dual-parts, dual-parts-tell};
+ghost use Rattle.ring.specs.RingMap.{RingMap};
+ghost use Rattle.ring.specs.DualNumbers.{dual-map, first-part, duals, dual-parts, dual-parts-tell};
 ghost use Rattle.ring.specs.declared.dual.Dual.{Dual as Pair};
 use crate::ring::Ring;
 
@@ -9,6 +10,16 @@ use crate::ring::Ring;
 pub struct Dual<R> {
     pub first: R,
     pub second: R,
+}
+
+impl<R: Ring> Dual<R> {
+    // The first part. First parts are worked out from first parts alone: taking them is a map of rings.
+    pub fn first_part(self) -> R
+        ensures is { λ r. ⌜ R·Ring .value r ≡ first-part (dual-map (R·Ring .value) self) ⌝ }
+        ensures maps { λ _. ⌜ RingMap (duals (R·Ring .ring)) (R·Ring .ring) first-part ⌝ }
+    {
+        self.first
+    }
 }
 
 pub impl<R: Ring> Ring for Dual<R> as DualRing {
@@ -55,7 +66,16 @@ pub impl<R: Ring> Ring for Dual<R> as DualRing {
     fn mul(self, other: Dual<R>) -> Dual<R> {
         Dual {
             first: self.first.mul(other.first),
-            second: self.first.mul(other.second).add(self.second.mul(other.first)),
+            second: self.first
+                .mul(other.second)
+                .add(self.second.mul(other.first)),
+        }
+    }
+
+    fn sub(self, other: Dual<R>) -> Dual<R> {
+        Dual {
+            first: self.first.sub(other.first),
+            second: self.second.sub(other.second),
         }
     }
 

@@ -16,5 +16,7 @@ pub use word::WordRing;
 
 // The three rings at hand: modulo the primes 2147483647 and 65521, and modulo 2^32.
 pub type RingA = Residue<2147483647>;
+
 pub type RingB = Residue<65521>;
+
 pub type RingW = Word;

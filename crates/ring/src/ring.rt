@@ -4,7 +4,7 @@ ghost use mathlib.Core.List.{List};
 ghost use Prim.Native.Nat.{ℕ, _-_, _^_, min};
 ghost use Rattle.std.specs.Options.{mapped};
 ghost use Rattle.std.specs.Finite.{nth};
-ghost use Rattle.ring.specs.CommRing.{CommRing, Tells};
+ghost use Rattle.ring.specs.CommRing.{CommRing, Tells, difference};
 ghost use Rattle.ring.specs.Parts.{Parts};
 ghost use Rattle.ring.specs.Whole.{copies, whole as enters};
 
@@ -38,6 +38,13 @@ pub trait Ring: Copy {
 
     fn mul(self, other: Self) -> Self
         ensures { λ r. ⌜ value r ≡ ring .mul (value self) (value other) ⌝ };
+
+    // A number less another. A ring that has a shorter way may take it.
+    fn sub(self, other: Self) -> Self
+        ensures { λ r. ⌜ value r ≡ difference ring (value self) (value other) ⌝ }
+    {
+        self.add(other.neg())
+    }
 
     // Whether two values stand for one number.
     fn equals(self, other: Self) -> bool

@@ -51,6 +51,12 @@ pub impl Ring for Word as WordRing {
         }
     }
 
+    fn sub(self, other: Word) -> Word {
+        Word {
+            word: self.word.wrapping_sub(other.word),
+        }
+    }
+
     fn equals(self, other: Word) -> bool {
         self.word == other.word
     }
@@ -66,9 +72,9 @@ pub impl Ring for Word as WordRing {
         // Newton's step squares the error 1 - a x. It begins at (1 - a)^2, a multiple of 4,
         // and four steps later it is a multiple of 2^32.
         let two = Word { word: 2 };
-        let mut x = two.add(self.neg());
+        let mut x = two.sub(self);
         for _ in 0..4u32 {
-            x = x.mul(two.add(self.mul(x).neg()));
+            x = x.mul(two.sub(self.mul(x)));
         }
         Some(x)
     }

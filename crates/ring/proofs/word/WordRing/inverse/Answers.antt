@@ -3,6 +3,7 @@ use Prim.Native.Nat.{ℕ, _%_}
 use native.Mathlib.Numerals.{add-one}
 use native.Mathlib.Omega.{arith}
 use borrow.Author.Tests.{eq-eqb, ne-eqb}
+use Rattle.ring.specs.CommRing.{difference}
 use Rattle.ring.specs.Laws.{inverse-of, inverse-missing}
 use Rattle.ring.specs.Residues.{words, word-value}
 use Rattle.ring.proofs.Newton.{class, two-is, Near, near-first, near-next, near-last, even-missing}
@@ -18,10 +19,8 @@ returns-then-self-eq0 c =
 pub loop-holds : need.loop-holds
 loop-holds c =
     let odd : c .args .self .word % 2 ≡ 1 = omega (arith, c .if-self-eq0 .left) in
-    near-first (c .args .self .word) odd (word-value (c .add-x .result))
-    (c .add-x .ensures
-    ∙ ap (words .add (class 2)) (c .neg .ensures)
-    ∙ ap (λ y. words .add y (words .neg (word-value (c .args .self)))) two-is)
+    near-first (c .args .self .word) odd (word-value (c .sub-x .result))
+    (c .sub-x .ensures ∙ ap (λ y. words .add y (words .neg (word-value (c .args .self)))) two-is)
 
 pub loop-again : need.loop-again
 loop-again c =
@@ -33,8 +32,8 @@ loop-again c =
     (near-next (c .loop .counter) a x y
     (c .mul-x .ensures
     ∙ ap (words .mul x)
-    (c .add .ensures
-    ∙ ap (words .add (class 2)) (c .neg-in-loop .ensures ∙ ap (words .neg) (c .mul .ensures))
+    (c .sub .ensures
+    ∙ ap (difference words (class 2)) (c .mul .ensures)
     ∙ ap (λ z. words .add z (words .neg (words .mul a x))) two-is))
     (c .loop .inv))
 

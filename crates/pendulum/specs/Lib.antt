@@ -1,0 +1,2 @@
+pub mod NewtonEuler
+pub mod Equation
