@@ -1,59 +1,27 @@
 // Works one pendulum's torque through, over the ring A and over its dual numbers, and prints each step.
+use figures::plain_arm;
+use figures::plain_torque;
+use figures::sloped_arm;
+use figures::sloped_torque;
 use pendulum::Pendulum;
 use pendulum::Steps;
-use ring::Dual;
 use ring::DualRing;
 use ring::ResidueRing;
 use ring::Ring;
-use ring::RingA;
-use ring::whole;
 use show::Number;
 use show::NumberDisplay;
 use show::Row;
 use show::RowDisplay;
-use show::SixNumbers;
-use show::SixNumbersDisplay;
+use show::Six;
+use show::SixDisplay;
 use spatial::Link;
-use spatial::Symmetric3;
 use spatial::Triple;
 use std::io;
 
 mod show;
 
-// Mass 2, first moment (2, 0, 0), J22 = J33 = 2, gravity (0, -10, 0) and acceleration 3.
-fn arm<R: Ring>(position: R, rate: R) -> Pendulum<R> {
-    let zero = R::zero();
-    let two = whole(2);
-    Pendulum {
-        link: Link {
-            mass: two,
-            first_moment: Triple {
-                x: two,
-                y: zero,
-                z: zero,
-            },
-            inertia: Symmetric3 {
-                xx: zero,
-                xy: zero,
-                xz: zero,
-                yy: two,
-                yz: zero,
-                zz: two,
-            },
-        },
-        gravity: Triple {
-            x: zero,
-            y: whole(-10),
-            z: zero,
-        },
-        position,
-        rate,
-        acceleration: whole(3),
-    }
-}
-
-fn print_arm<R: Ring>(rt: &LibcRuntime, arm: Pendulum<R>) -> io::Result<()> {
-    let j = arm.link.inertia;
+fn print_link<R: Ring>(rt: &LibcRuntime, link: Link<R>) -> io::Result<()> {
+    let j = link.inertia;
     let top = Row(Triple {
         x: j.xx,
         y: j.xy,
@@ -64,9 +32,13 @@ fn print_arm<R: Ring>(rt: &LibcRuntime, arm: Pendulum<R>) -> io::Result<()> {
         y: j.yz,
         z: j.zz,
     });
-    println!(rt, "mass          {}", Number(arm.link.mass))?;
-    println!(rt, "first moment  {}", Row(arm.link.first_moment))?;
-    println!(rt, "inertia       {top} {rest}")?;
+    println!(rt, "mass          {}", Number(link.mass))?;
+    println!(rt, "first moment  {}", Row(link.first_moment))?;
+    println!(rt, "inertia       {top} {rest}")
+}
+
+fn print_arm<R: Ring>(rt: &LibcRuntime, arm: Pendulum<R>) -> io::Result<()> {
+    print_link(rt, arm.link)?;
     println!(rt, "gravity       {}", Row(arm.gravity))?;
     println!(rt, "position      {}", Number(arm.position))?;
     println!(rt, "rate          {}", Number(arm.rate))?;
@@ -79,38 +51,28 @@ fn print_steps<R: Ring>(rt: &LibcRuntime, steps: Steps<R>) -> io::Result<()> {
     let f = steps.force;
     println!(
         rt,
-        "v = X 0 + S q'                     {}",
-        SixNumbers {
-            first: v.angular,
-            second: v.linear
-        }
+        "v = X 0 + S q'                    {}",
+        Six(v.angular, v.linear)
     )?;
     println!(
         rt,
-        "a = X (0; -g) + S q'' + v x S q'   {}",
-        SixNumbers {
-            first: a.angular,
-            second: a.linear
-        }
+        "a = X (0; -g) + S q'' + v x S q'  {}",
+        Six(a.angular, a.linear)
     )?;
     println!(
         rt,
-        "f = I a + v x* I v                 {}",
-        SixNumbers {
-            first: f.moment,
-            second: f.linear
-        }
+        "f = I a + v x* I v                {}",
+        Six(f.moment, f.linear)
     )?;
     println!(
         rt,
-        "torque = S . f                     {}",
+        "torque = S . f                    {}",
         Number(steps.torque)
     )
 }
 
-fn print_torque<R: Ring>(rt: &LibcRuntime, arm: Pendulum<R>) -> io::Result<()> {
-    print_arm(rt, arm)?;
-    match arm.torque() {
+fn print_outcome<R: Ring>(rt: &LibcRuntime, outcome: Option<Steps<R>>) -> io::Result<()> {
+    match outcome {
         Some(steps) => print_steps(rt, steps),
         None => println!(rt, "1 + t t is no unit: the position has no placement"),
     }
@@ -118,17 +80,13 @@ fn print_torque<R: Ring>(rt: &LibcRuntime, arm: Pendulum<R>) -> io::Result<()> {
 
 fn main(rt: LibcRuntime) -> io::Result<()> {
     println!(rt, "A link on a fixed axis, modulo 2147483647")?;
-    let plain: Pendulum<RingA> = arm(whole(0), whole(5));
-    print_torque(&rt, plain)?;
+    print_arm(&rt, plain_arm())?;
+    print_outcome(&rt, plain_torque())?;
     println!(rt, "")?;
     println!(
         rt,
-        "The same at rate 0 and t = 1 + e, each number with its slope after a comma"
+        "The same at rate 0 and t = 1 + e: each number, a comma, its slope"
     )?;
-    let t = Dual {
-        first: whole(1),
-        second: whole(1),
-    };
-    let sloped: Pendulum<Dual<RingA>> = arm(t, whole(0));
-    print_torque(&rt, sloped)
+    print_arm(&rt, sloped_arm())?;
+    print_outcome(&rt, sloped_torque())
 }

@@ -1,8 +1,5 @@
-// Numbers, vectors and links as text.
+// Numbers and vectors as text.
 use ring::Ring;
-use spatial::Force;
-use spatial::Link;
-use spatial::Motion;
 use spatial::Triple;
 use std::fmt;
 
@@ -39,15 +36,12 @@ pub impl<R: Ring> fmt::Display for Row<R> as RowDisplay {
 
 // The two triples of a motion or a force, with a semicolon between them.
 #[derive(Drop)]
-pub struct SixNumbers<R: Ring> {
-    pub first: Triple<R>,
-    pub second: Triple<R>,
-}
+pub struct Six<R: Ring>(pub Triple<R>, pub Triple<R>);
 
-pub impl<R: Ring> fmt::Display for SixNumbers<R> as SixNumbersDisplay {
+pub impl<R: Ring> fmt::Display for Six<R> as SixDisplay {
     fn fmt<W: fmt::Write>(&self, f: &mut fmt::Formatter<W>) -> fmt::Result {
-        let first = Row(self.first);
-        let second = Row(self.second);
+        let first = Row(self.0);
+        let second = Row(self.1);
         write!(f, "{first}; {second}")
     }
 }

@@ -10,7 +10,7 @@ use Rattle.ring.specs.Laws.{zero-mul, neg-only, neg-neg}
 use Rattle.ring.specs.Below.{Below, residue, below-eq, mul-mod-l}
 use Rattle.ring.specs.Euclid.{no-inverse}
 use Rattle.ring.specs.Residues.{words, words-big}
-use Rattle.ring.proofs.Classes.{sum-of, product-of}
+use Rattle.ring.specs.Least.{sum-of, product-of}
 use Rattle.ring.proofs.Solve.{Term, var, unit, _⊕_, _⊗_, _⊝_, opp, solved}
 
 module _ {N : Type 0} (k : CommRing N) where

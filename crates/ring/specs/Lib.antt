@@ -6,5 +6,6 @@ pub mod Laws
 pub mod Below
 pub mod Euclid
 pub mod Modular
+pub mod Least
 pub mod Residues
 pub mod DualNumbers

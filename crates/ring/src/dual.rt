@@ -18,7 +18,8 @@ impl<R: Ring> Dual<R> {
         ensures is { λ r. ⌜ R·Ring .value r ≡ first-part (dual-map (R·Ring .value) self) ⌝ }
         ensures maps { λ _. ⌜ RingMap (duals (R·Ring .ring)) (R·Ring .ring) first-part ⌝ }
     {
-        self.first
+        let Dual { first, .. } = self;
+        first
     }
 }
 

@@ -4,12 +4,24 @@ ghost use Prim.Native.Nat.{_%_, _^_};
 ghost use lib.Dec.{eqb};
 ghost use Rattle.std.specs.Options.{isSome, mapped};
 ghost use Rattle.ring.specs.Below.{Below};
-ghost use Rattle.ring.specs.Residues.{words, word-value, one-part, word-parts-tell};
+ghost use Rattle.ring.specs.Least.{LeastOf};
+ghost use Rattle.ring.specs.Residues.{words, words-big, word-value, one-part, word-parts-tell};
 use crate::ring::Ring;
 
 #[derive(Clone, Copy)]
 pub struct Word {
     pub word: u32,
+}
+
+impl Word {
+    // `n` by its least residue.
+    fn least(n: u64) -> Word
+        ensures { λ r. ⌜ LeastOf (2 ^ 32) words-big (r .word) n ⌝ }
+    {
+        Word {
+            word: (n % 4294967296) as u32,
+        }
+    }
 }
 
 pub impl Ring for Word as WordRing {
@@ -34,27 +46,19 @@ pub impl Ring for Word as WordRing {
     }
 
     fn add(self, other: Word) -> Word {
-        Word {
-            word: self.word.wrapping_add(other.word),
-        }
+        Word::least(self.word as u64 + other.word as u64)
     }
 
     fn neg(self) -> Word {
-        Word {
-            word: self.word.wrapping_neg(),
-        }
+        Word::least(4294967296 - self.word as u64)
     }
 
     fn mul(self, other: Word) -> Word {
-        Word {
-            word: self.word.wrapping_mul(other.word),
-        }
+        Word::least(self.word as u64 * other.word as u64)
     }
 
     fn sub(self, other: Word) -> Word {
-        Word {
-            word: self.word.wrapping_sub(other.word),
-        }
+        Word::least(4294967296 + self.word as u64 - other.word as u64)
     }
 
     fn equals(self, other: Word) -> bool {
@@ -88,8 +92,6 @@ pub impl Ring for Word as WordRing {
     }
 
     fn natural(n: u64) -> Word {
-        Word {
-            word: (n % (1 << 32)) as u32,
-        }
+        Word::least(n)
     }
 }

@@ -2,7 +2,7 @@
 use Rattle.ring.specs.CommRing.{CommRing}
 use Rattle.spatial.specs.Ops.{Ops, ops}
 use Rattle.spatial.specs.Triples.{triple, add3, sub3, scale3, cross3}
-use Rattle.spatial.specs.Matrices.{symmetric, times-symmetric}
+use Rattle.spatial.specs.Matrices.{symmetric, full, times}
 use Rattle.spatial.specs.declared.vectors.Motion.{Motion}
 use Rattle.spatial.specs.declared.vectors.Force.{Force}
 use Rattle.spatial.specs.declared.link.Link.{Link}
@@ -15,7 +15,7 @@ link f l =
 abbrev pub momentum-by : {N : Type 0} → Ops N → Link N → Motion N → Force N
 momentum-by o l m =
     record {
-      moment = add3 o (times-symmetric o (l .inertia) (m .angular)) (cross3 o (l .«first_moment») (m .linear));
+      moment = add3 o (times o (full (l .inertia)) (m .angular)) (cross3 o (l .«first_moment») (m .linear));
       linear = sub3 o (scale3 o (l .mass) (m .linear)) (cross3 o (l .«first_moment») (m .angular));
     }
 

@@ -25,6 +25,3 @@ module _ {N : Type 0} (o : Ops N) where
   -- a matrix times a column
   abbrev pub times : Matrix3 N → Triple N → Triple N
   times m a = record { x = dot3 o (m .x) a; y = dot3 o (m .y) a; z = dot3 o (m .z) a }
-
-  abbrev pub times-symmetric : Symmetric3 N → Triple N → Triple N
-  times-symmetric s a = times (full s) a

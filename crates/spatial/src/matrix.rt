@@ -2,7 +2,7 @@
 ghost use mathlib.Core.Path.{_≡_};
 ghost use Rattle.spatial.specs.Ops.{ops};
 ghost use Rattle.spatial.specs.Triples.{triple};
-ghost use Rattle.spatial.specs.Matrices.{matrix, symmetric, times, times-symmetric};
+ghost use Rattle.spatial.specs.Matrices.{matrix, symmetric, full, times};
 use crate::triple::Triple;
 use crate::triple::TripleClone;
 use ring::Ring;
@@ -38,28 +38,32 @@ impl<R: Ring> Matrix3<R> {
 }
 
 impl<R: Ring> Symmetric3<R> {
-    pub fn apply(self, a: Triple<R>) -> Triple<R>
-        ensures { λ r. ⌜ triple (R·Ring .value) r ≡ times-symmetric (ops (R·Ring .ring)) (symmetric (R·Ring .value) self) (triple (R·Ring .value) a) ⌝ }
+    // All nine entries.
+    pub fn full(self) -> Matrix3<R>
+        ensures { λ r. ⌜ matrix (R·Ring .value) r ≡ full (symmetric (R·Ring .value) self) ⌝ }
     {
-        let x = Triple {
-            x: self.xx,
-            y: self.xy,
-            z: self.xz,
-        };
-        let y = Triple {
-            x: self.xy,
-            y: self.yy,
-            z: self.yz,
-        };
-        let z = Triple {
-            x: self.xz,
-            y: self.yz,
-            z: self.zz,
-        };
-        Triple {
-            x: x.dot(a),
-            y: y.dot(a),
-            z: z.dot(a),
+        Matrix3 {
+            x: Triple {
+                x: self.xx,
+                y: self.xy,
+                z: self.xz,
+            },
+            y: Triple {
+                x: self.xy,
+                y: self.yy,
+                z: self.yz,
+            },
+            z: Triple {
+                x: self.xz,
+                y: self.yz,
+                z: self.zz,
+            },
         }
+    }
+
+    pub fn apply(self, a: Triple<R>) -> Triple<R>
+        ensures { λ r. ⌜ triple (R·Ring .value) r ≡ times (ops (R·Ring .ring)) (full (symmetric (R·Ring .value) self)) (triple (R·Ring .value) a) ⌝ }
+    {
+        self.full().apply(a)
     }
 }

@@ -1,6 +1,0 @@
-use native.Mathlib.Omega.{arith}
-use Rattle.ring.specs.Below.{below-eq}
-use Rattle.ring.proofs.word.WordRing.neg.Needs as need
-
-pub returns : need.returns
-returns c = below-eq _ _ (omega arith)
