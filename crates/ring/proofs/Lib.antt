@@ -1,4 +1,5 @@
-pub mod Copies
 pub mod Classes
-pub mod Solve
+pub mod Coefficients
+pub mod Copies
 pub mod Newton
+pub mod Solve

@@ -68,8 +68,7 @@ pub impl<R: Ring> Ring for Dual<R> as DualRing {
         Dual {
             first: self.first.mul(other.first),
             second: self.first
-                .mul(other.second)
-                .add(self.second.mul(other.first)),
+                .mul_add(other.second, self.second.mul(other.first)),
         }
     }
 
@@ -77,6 +76,14 @@ pub impl<R: Ring> Ring for Dual<R> as DualRing {
         Dual {
             first: self.first.sub(other.first),
             second: self.second.sub(other.second),
+        }
+    }
+
+    fn mul_add(self, factor: Dual<R>, term: Dual<R>) -> Dual<R> {
+        let beside = self.second.mul_add(factor.first, term.second);
+        Dual {
+            first: self.first.mul_add(factor.first, term.first),
+            second: self.first.mul_add(factor.second, beside),
         }
     }
 

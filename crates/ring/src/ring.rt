@@ -46,6 +46,13 @@ pub trait Ring: Copy {
         self.add(other.neg())
     }
 
+    // This number times `factor`, and `term` more. A ring that has a shorter way may take it.
+    fn mul_add(self, factor: Self, term: Self) -> Self
+        ensures { λ r. ⌜ value r ≡ ring .add (ring .mul (value self) (value factor)) (value term) ⌝ }
+    {
+        self.mul(factor).add(term)
+    }
+
     // Whether two values stand for one number.
     fn equals(self, other: Self) -> bool
         ensures { λ r. ⌜ Tells (value self) (value other) r ⌝ };

@@ -61,6 +61,10 @@ pub impl Ring for Word as WordRing {
         Word::least(4294967296 + self.word as u64 - other.word as u64)
     }
 
+    fn mul_add(self, factor: Word, term: Word) -> Word {
+        Word::least(self.word as u64 * factor.word as u64 + term.word as u64)
+    }
+
     fn equals(self, other: Word) -> bool {
         self.word == other.word
     }

@@ -29,7 +29,7 @@ module _ {N : Type 0} (o : Ops N) where
 
   -- a · b
   abbrev pub dot3 : Triple N → Triple N → N
-  dot3 a b = add (add (mul (a .x) (b .x)) (mul (a .y) (b .y))) (mul (a .z) (b .z))
+  dot3 a b = add (mul (a .x) (b .x)) (add (mul (a .y) (b .y)) (mul (a .z) (b .z)))
 
   -- a × b
   abbrev pub cross3 : Triple N → Triple N → Triple N

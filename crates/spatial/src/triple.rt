@@ -81,9 +81,7 @@ impl<R: Ring> Triple<R> {
         ensures { λ r. ⌜ R·Ring .value r ≡ dot3 (ops (R·Ring .ring)) (triple (R·Ring .value) self) (triple (R·Ring .value) other) ⌝ }
     {
         self.x
-            .mul(other.x)
-            .add(self.y.mul(other.y))
-            .add(self.z.mul(other.z))
+            .mul_add(other.x, self.y.mul_add(other.y, self.z.mul(other.z)))
     }
 
     pub fn cross(self, other: Triple<R>) -> Triple<R>

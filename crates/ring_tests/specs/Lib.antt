@@ -1,0 +1,2 @@
+pub mod Fifteen
+pub mod Cubes

@@ -1,0 +1,5 @@
+mod common;
+mod duals;
+mod fifteens;
+mod wholes;
+mod words;
