@@ -2,14 +2,16 @@
 use mathlib.Core.Path.{_≡_, refl, sym, ap, _∙_}
 use mathlib.Core.List.{List, [], _∷_}
 use Prim.Native.Nat.{ℕ}
+use lib.Dec.{lit<}
 use Rattle.std.specs.declared.option.Option.{Option}
 use Rattle.std.specs.declared.option.Option.the-variants.{Some, None}
 use Rattle.std.specs.Options.{mapped}
 use Rattle.ring.specs.CommRing.{CommRing, IsUnit}
 use Rattle.ring.specs.Laws.{inverse-of, inverse-missing, zero-mul}
 use Rattle.ring.specs.Below.{below-eq}
-use Rattle.ring.specs.Residues.{residues, words, one-part}
+use Rattle.ring.specs.Residues.{modulus, modulus-big, residues, words, one-part}
 use Rattle.ring.specs.DualNumbers.{dual, duals, dual-parts}
+use Rattle.ring.proofs.Primes.{prime-unit}
 use Rattle.spatial.specs.Vectors.{motion-zero, unit-turn, motion-add, motion-scale, motion-cross, force-add, force-cross, pairing}
 use Rattle.spatial.specs.Placements.{outward, turned, turn-norm}
 use Rattle.spatial.specs.Links.{momentum}
@@ -50,6 +52,13 @@ unfolding turn-norm
 known k =
     record {
       inverse-of-three = inverse-of words (in-w 3) (in-w 2863311531) (below-eq (words .mul (in-w 3) (in-w 2863311531)) (words .one) refl);
+      units-of-a =
+          λ x ne.
+          prime-unit (modulus 2147483647) 16 (modulus-big 2147483647) refl (lit< tt) x
+          (λ h. ne (below-eq x (residues 2147483647 .zero) h));
+      units-of-b =
+          λ x ne.
+          prime-unit (modulus 65521) 8 (modulus-big 65521) refl (lit< tt) x (λ h. ne (below-eq x (residues 65521 .zero) h));
       slope-alone =
           inverse-missing (duals k) (dual (k .zero) (k .one)) (λ n e. zero-none k (k .zero) refl (n .first, ap (λ x. x .first) e));
       no-placement-low = zero-none (residues 65521) (turn-norm (residues 65521) (in-b 24297)) (norm-zero 24297 refl);

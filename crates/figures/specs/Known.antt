@@ -28,6 +28,10 @@ in-w = residue (2 ^ 32) words-big
 pub record Known {N : Type 0} (k : CommRing N) : Type 0 where
   -- in W the inverse of 3 is 2863311531
   pub inverse-of-three : words .inverse (in-w 3) ≡ Some (in-w 2863311531)
+  -- in A and in B every number but zero is a unit
+  pub units-of-a :
+      (x : Below (modulus 2147483647)) → (x ≡ residues 2147483647 .zero → ⊥) → IsUnit (residues 2147483647) x
+  pub units-of-b : (x : Below (modulus 65521)) → (x ≡ residues 65521 .zero → ⊥) → IsUnit (residues 65521) x
   -- over every ring the dual number 0 + 1 e has no inverse
   pub slope-alone : duals k .inverse (dual (k .zero) (k .one)) ≡ None
   -- in B, 1 + t t is no unit for two positions, and is one for a neighbour

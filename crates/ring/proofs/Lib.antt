@@ -2,4 +2,5 @@ pub mod Classes
 pub mod Coefficients
 pub mod Copies
 pub mod Newton
+pub mod Primes
 pub mod Solve
