@@ -1,19 +1,15 @@
 -- Sums of one number with itself.
 use mathlib.Core.Path.{_≡_, refl, sym, ap, _∙_}
-use mathlib.Core.Bool.{Bool, true, false}
-use mathlib.Core.List.{List, [], _∷_, _++_}
-use Prim.Native.Nat.{ℕ, zero, suc, _+_, _-_, _*_, _/_, _%_, _<_, _≤_}
+use mathlib.Core.Bool.{true}
+use Prim.Native.Nat.{ℕ, zero, suc, _+_, _/_, _%_, _<_}
 use lib.Dec.{ltb}
 use borrow.Author.Tests.{ltb-true}
 use lib.IntN.{ℤ, pos, negsuc, natAbs}
-use lib.ListN.{length}
 use lib.Signed.{ltZ}
-use Rattle.std.specs.declared.option.Option.the-variants.{Some, None}
-use Rattle.std.specs.Finite.{nth}
 use native.Mathlib.Nat.{add-zero, add-suc}
 use native.Mathlib.Omega.{arith}
 use Rattle.ring.specs.CommRing.{CommRing}
-use Rattle.ring.specs.Laws.{zero-add, medial, neg-zero, neg-add, add-swap}
+use Rattle.ring.specs.Laws.{medial, neg-zero, neg-add}
 use Rattle.ring.specs.Whole.{copies, whole}
 use Rattle.ring.specs.DualNumbers.{dual, duals, dual-eq}
 
@@ -69,20 +65,3 @@ pub negative-whole :
     → k .neg (copies k n (k .one)) ≡ whole k z
 negative-whole k (pos a) n low e = absurd (not-below a low)
 negative-whole k (negsuc a) n low e = ap (λ i. k .neg (copies k i (k .one))) e ∙ sym (copies-neg k (suc a) (k .one))
-
--- an item of the first list stands at the same place in both
-pub nth-found : {X : Type 0} (xs ys : List X) (i : ℕ) (x : X) → Some x ≡ nth xs i → Some x ≡ nth (xs ++ ys) i
-nth-found [] ys i x e = absurd (let z : _≡_ {A = ℕ} 0 1 = cc in omega arith)
-nth-found (y ∷ xs) ys zero x e = e
-nth-found (y ∷ xs) ys (suc i) x e = nth-found xs ys i x e
-
-pub nth-missing : {X : Type 0} (xs : List X) (i : ℕ) → None ≡ nth xs i → length xs ≤ i
-nth-missing [] i e = omega arith
-nth-missing (y ∷ xs) zero e = absurd (let z : _≡_ {A = ℕ} 0 1 = cc in omega arith)
-nth-missing (y ∷ xs) (suc i) e = let h = nth-missing xs i e in omega arith
-
--- what stands past the first list is the second's
-pub nth-back : {X : Type 0} (xs ys : List X) (i n : ℕ) → n ≡ length xs → n ≤ i → nth (xs ++ ys) i ≡ nth ys (i - n)
-nth-back [] ys i n e h = ap (nth ys) (omega arith)
-nth-back (x ∷ xs) ys zero n e h = absurd (omega arith)
-nth-back (x ∷ xs) ys (suc i) n e h = nth-back xs ys i (n - 1) (omega arith) (omega arith) ∙ ap (nth ys) (omega arith)

@@ -1,7 +1,7 @@
 -- Newton's steps to an inverse modulo 2 ^ 32.
 use mathlib.Core.Path.{_≡_, refl, sym, ap, _∙_}
-use mathlib.Core.List.{List, [], _∷_}
-use Prim.Native.Nat.{ℕ, suc, _+_, _-_, _*_, _/_, _%_, _^_, _<_}
+use mathlib.Core.List.{[], _∷_}
+use Prim.Native.Nat.{ℕ, suc, _+_, _*_, _/_, _%_, _^_}
 use native.Mathlib.Nat.{dvd-of-mod-eq-zero, pow-suc, mul-comm, two-mul}
 use lib.Pow.{pow-add}
 use native.Mathlib.Omega.{arith}
@@ -11,7 +11,7 @@ use Rattle.ring.specs.Below.{Below, residue, below-eq, mul-mod-l}
 use Rattle.ring.specs.Euclid.{no-inverse}
 use Rattle.ring.specs.Residues.{words, words-big}
 use Rattle.ring.specs.Least.{sum-of, product-of}
-use Rattle.ring.proofs.Solve.{Term, var, unit, _⊕_, _⊗_, _⊝_, opp, solved}
+use Rattle.ring.proofs.Solve.{var, unit, _⊕_, _⊗_, _⊝_, opp, solved}
 
 module _ {N : Type 0} (k : CommRing N) where
   open CommRing k using (add, mul, neg)

@@ -2,7 +2,7 @@ use mathlib.Core.Path.{_≡_, sym, _∙_}
 use Prim.Native.Nat.{_<_, _≤_, _-_}
 use native.Mathlib.Omega.{arith}
 use lib.ListN.{length}
-use Rattle.ring.proofs.Copies.{nth-found, nth-missing, nth-back}
+use Rattle.ring.proofs.Places.{nth-found, nth-missing, nth-back}
 use Rattle.ring.proofs.dual.DualRing.part.Needs as need
 
 -- the first number has no part at i: it has i parts at most
