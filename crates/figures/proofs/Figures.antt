@@ -17,7 +17,7 @@ use Rattle.spatial.specs.Placements.{outward, turned, turn-norm}
 use Rattle.spatial.specs.Links.{momentum}
 use Rattle.pendulum.specs.NewtonEuler.{steps, newton-euler}
 use Rattle.pendulum.specs.declared.Steps.{Steps}
-use Rattle.figures.specs.Arm.{arm}
+use Rattle.figures.specs.Arm.{arm, skew}
 use Rattle.figures.specs.Known.{Known, in-a, in-b, in-w}
 
 -- zero is no unit
@@ -36,6 +36,11 @@ pub torque-figure :
     mapped (λ s. one-part (s .torque)) (newton-euler (residues 2147483647) (arm (residues 2147483647) (in-a 0) (in-a 5))) ≡ Some (26 ∷ [])
 unfolding motion-zero unit-turn motion-add motion-scale motion-cross force-add force-cross pairing outward turned turn-norm momentum
 torque-figure = refl
+
+pub skew-figure :
+    mapped (λ s. one-part (s .torque)) (newton-euler (residues 2147483647) (skew (residues 2147483647))) ≡ Some (41 ∷ [])
+unfolding motion-zero unit-turn motion-add motion-scale motion-cross force-add force-cross pairing outward turned turn-norm momentum
+skew-figure = refl
 
 pub slope-figure :
     mapped (λ s. dual-parts one-part (s .torque))
@@ -69,4 +74,5 @@ known k =
       );
       torque = torque-figure;
       slope = slope-figure;
+      skew-torque = skew-figure;
     }

@@ -13,7 +13,7 @@ use Rattle.ring.specs.DualNumbers.{dual, duals, dual-parts}
 use Rattle.ring.specs.Whole.{whole}
 use Rattle.spatial.specs.Placements.{turn-norm}
 use Rattle.pendulum.specs.NewtonEuler.{newton-euler}
-use Rattle.figures.specs.Arm.{arm}
+use Rattle.figures.specs.Arm.{arm, skew}
 
 -- the number n in A, modulo 2147483647, in B, modulo 65521, and in W, modulo 2 ^ 32
 abbrev pub in-a : ℕ → Below (modulus 2147483647)
@@ -47,3 +47,6 @@ pub record Known {N : Type 0} (k : CommRing N) : Type 0 where
       mapped (λ s. dual-parts one-part (s .torque))
       (newton-euler (duals (residues 2147483647)) (arm (duals (residues 2147483647)) (dual (in-a 1) (in-a 1)) (dual (in-a 0) (in-a 0))))
       ≡ Some (6 ∷ 2147483627 ∷ [])
+  -- in A the skew arm has the torque 41
+  pub skew-torque :
+      mapped (λ s. one-part (s .torque)) (newton-euler (residues 2147483647) (skew (residues 2147483647))) ≡ Some (41 ∷ [])

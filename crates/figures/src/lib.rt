@@ -1,13 +1,17 @@
-// Rigs and numbers whose figures are known beforehand.
+// Arms and numbers whose figures are known beforehand.
 ghost use mathlib.Core.Path.{_≡_};
 ghost use mathlib.Core.List.{[], _∷_};
 ghost use Rattle.std.specs.Options.{mapped};
 ghost use Rattle.std.specs.declared.option.Option.the-variants.{Some};
 ghost use Rattle.ring.specs.Residues.{residues, residue-value, one-part};
 ghost use Rattle.ring.specs.DualNumbers.{dual, dual-map, dual-parts, duals};
-ghost use Rattle.pendulum.specs.NewtonEuler.{pendulum};
-ghost use Rattle.figures.specs.Arm.{arm as described};
+ghost use Rattle.pendulum.specs.NewtonEuler.{pendulum, steps, newton-euler};
+ghost use Rattle.ring.specs.Whole.{whole as enters};
+ghost use Rattle.linear.specs.Triples.{triple};
+ghost use Rattle.figures.specs.Arm.{arm as described, skew};
 ghost use Rattle.figures.specs.Known.{Known, in-a};
+use linear::Symmetric3;
+use linear::Triple;
 use pendulum::Pendulum;
 use pendulum::Steps;
 use ring::Dual;
@@ -17,8 +21,6 @@ use ring::Ring;
 use ring::RingA;
 use ring::whole;
 use spatial::Link;
-use spatial::Symmetric3;
-use spatial::Triple;
 
 // Each known figure is what the definitions give that the contracts of the code cite.
 pub fn known_figures<R: Ring>()
@@ -79,14 +81,59 @@ pub fn sloped_arm() -> Pendulum<Dual<RingA>>
 
 // The plain arm's torque is 26.
 pub fn plain_torque() -> Option<Steps<RingA>>
-    ensures { λ r. ⌜ mapped (λ s. one-part (residue-value 2147483647 (s .torque))) r ≡ Some (26 ∷ []) ⌝ }
+    ensures is { λ r. ⌜ mapped (steps (residue-value 2147483647)) r ≡ newton-euler (residues 2147483647) (described (residues 2147483647) (in-a 0) (in-a 5)) ⌝ }
+    ensures figure { λ r. ⌜ mapped (λ s. one-part (residue-value 2147483647 (s .torque))) r ≡ Some (26 ∷ []) ⌝ }
 {
     plain_arm().torque()
 }
 
 // The sloped arm's torque is 6, and its slope is -20.
 pub fn sloped_torque() -> Option<Steps<Dual<RingA>>>
-    ensures { λ r. ⌜ mapped (λ s. dual-parts one-part (dual-map (residue-value 2147483647) (s .torque))) r ≡ Some (6 ∷ 2147483627 ∷ []) ⌝ }
+    ensures is { λ r. ⌜ mapped (steps (dual-map (residue-value 2147483647))) r ≡ newton-euler (duals (residues 2147483647)) (described (duals (residues 2147483647)) (dual (in-a 1) (in-a 1)) (dual (in-a 0) (in-a 0))) ⌝ }
+    ensures figure { λ r. ⌜ mapped (λ s. dual-parts one-part (dual-map (residue-value 2147483647) (s .torque))) r ≡ Some (6 ∷ 2147483627 ∷ []) ⌝ }
 {
     sloped_arm().torque()
+}
+
+// An arm whose numbers all differ: mass 2, first moment (5, 10, 15), inertia 1 2 3 4 5 7, gravity
+// (1, 2, 3), t = 2, rate 5 and acceleration 3. It tells apart what the arm above has equal or zero.
+pub fn skew_arm() -> Pendulum<RingA>
+    ensures { λ r. ⌜ pendulum (residue-value 2147483647) r ≡ skew (residues 2147483647) ⌝ }
+{
+    Pendulum {
+        link: Link {
+            mass: whole(2),
+            first_moment: row(5, 10, 15),
+            inertia: Symmetric3 {
+                xx: whole(1),
+                xy: whole(2),
+                xz: whole(3),
+                yy: whole(4),
+                yz: whole(5),
+                zz: whole(7),
+            },
+        },
+        gravity: row(1, 2, 3),
+        position: whole(2),
+        rate: whole(5),
+        acceleration: whole(3),
+    }
+}
+
+fn row<R: Ring>(x: i64, y: i64, z: i64) -> Triple<R>
+    ensures { λ r. ⌜ triple (R·Ring .value) r ≡ record { x = enters (R·Ring .ring) x; y = enters (R·Ring .ring) y; z = enters (R·Ring .ring) z } ⌝ }
+{
+    Triple {
+        x: whole(x),
+        y: whole(y),
+        z: whole(z),
+    }
+}
+
+// The skew arm's torque is 41.
+pub fn skew_torque() -> Option<Steps<RingA>>
+    ensures is { λ r. ⌜ mapped (steps (residue-value 2147483647)) r ≡ newton-euler (residues 2147483647) (skew (residues 2147483647)) ⌝ }
+    ensures figure { λ r. ⌜ mapped (λ s. one-part (residue-value 2147483647 (s .torque))) r ≡ Some (41 ∷ []) ⌝ }
+{
+    skew_arm().torque()
 }

@@ -4,6 +4,9 @@ ghost use Rattle.std.specs.Options.{mapped};
 ghost use Rattle.spatial.specs.Placements.{placement};
 ghost use Rattle.pendulum.specs.NewtonEuler.{pendulum, steps, newton-euler-at, newton-euler};
 ghost use Rattle.pendulum.specs.Equation.{equation};
+use linear::Triple;
+use linear::TripleClone;
+use linear::TripleNeg;
 use ring::Ring;
 use spatial::Force;
 use spatial::ForceAdd;
@@ -15,9 +18,6 @@ use spatial::MotionAdd;
 use spatial::MotionClone;
 use spatial::Placement;
 use spatial::PlacementClone;
-use spatial::Triple;
-use spatial::TripleClone;
-use spatial::TripleNeg;
 
 // The axis is the third one of a base at rest. `position` is the tangent of half the angle.
 #[derive(Clone, Copy)]

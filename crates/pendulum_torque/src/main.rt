@@ -1,8 +1,11 @@
 // Works one pendulum's torque through, over the ring A and over its dual numbers, and prints each step.
 use figures::plain_arm;
 use figures::plain_torque;
+use figures::skew_arm;
+use figures::skew_torque;
 use figures::sloped_arm;
 use figures::sloped_torque;
+use linear::Triple;
 use pendulum::Pendulum;
 use pendulum::Steps;
 use ring::DualRing;
@@ -15,7 +18,6 @@ use show::RowDisplay;
 use show::Six;
 use show::SixDisplay;
 use spatial::Link;
-use spatial::Triple;
 use std::io;
 
 mod show;
@@ -88,5 +90,9 @@ fn main(rt: LibcRuntime) -> io::Result<()> {
         "The same at rate 0 and t = 1 + e: each number, a comma, its slope"
     )?;
     print_arm(&rt, sloped_arm())?;
-    print_outcome(&rt, sloped_torque())
+    print_outcome(&rt, sloped_torque())?;
+    println!(rt, "")?;
+    println!(rt, "Another link, whose numbers all differ")?;
+    print_arm(&rt, skew_arm())?;
+    print_outcome(&rt, skew_torque())
 }

@@ -1,6 +1,6 @@
 // Numbers and vectors as text.
+use linear::Triple;
 use ring::Ring;
-use spatial::Triple;
 use std::fmt;
 
 // A number by its parts, with a comma between them.

@@ -88,6 +88,10 @@ abbrev none : List Part → Bool
 none [] = true
 none (t ∷ p) = false
 
+-- two terms whose difference comes to nothing
+abbrev pub agree : Term → Term → Bool
+agree a b = none (norm (a ⊝ b))
+
 same-eq : (vs ws : List ℕ) → same vs ws ≡ true → vs ≡ ws
 same-eq [] [] e = refl
 same-eq [] (w ∷ ws) e = cc
@@ -211,10 +215,10 @@ module _ {N : Type 0} (k : CommRing N) (at : ℕ → N) where
   cancel : (x y : N) → add x (neg y) ≡ k .zero → x ≡ y
   cancel x y e = sym (neg-neg k x) ∙ ap neg (sym (neg-only k x (neg y) e)) ∙ neg-neg k y
 
-  -- two terms are equal where their difference comes to nothing
-  pub solve : (a b : Term) → none (norm (a ⊝ b)) ≡ true → eval a ≡ eval b
+  -- terms that agree are equal in every commutative ring
+  pub solve : (a b : Term) → agree a b ≡ true → eval a ≡ eval b
   solve a b e = cancel (eval a) (eval b) (sym (norm-is (a ⊝ b)) ∙ none-is (norm (a ⊝ b)) e)
 
 -- the same, with a row of numbers for the variables 0, 1, ..
-pub solved : {N : Type 0} (k : CommRing N) (xs : List N) (a b : Term) → none (norm (a ⊝ b)) ≡ true → eval k (λ i. getD xs i (k .zero)) a ≡ eval k (λ i. getD xs i (k .zero)) b
+pub solved : {N : Type 0} (k : CommRing N) (xs : List N) (a b : Term) → agree a b ≡ true → eval k (λ i. getD xs i (k .zero)) a ≡ eval k (λ i. getD xs i (k .zero)) b
 solved k xs a b e = solve k (λ i. getD xs i (k .zero)) a b e

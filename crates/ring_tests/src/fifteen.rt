@@ -7,7 +7,7 @@ pub struct Fifteen {
     pub digit: u8,
 }
 
-// The bodies of `sub` and `natural` are the trait's own: they need no more than what stands here.
+// The bodies of `sub`, `mul_add` and `natural` are the trait's own: they need no more than what stands here.
 pub impl Ring for Fifteen as FifteenRing {
     ghost Num = { Number };
 

@@ -1,8 +1,8 @@
 -- Links: mass m, first moment h and the symmetric matrix J about the link's origin.
 use Rattle.ring.specs.CommRing.{CommRing}
-use Rattle.spatial.specs.Ops.{Ops, ops}
-use Rattle.spatial.specs.Triples.{triple, add3, sub3, scale3, cross3}
-use Rattle.spatial.specs.Matrices.{symmetric, full, times}
+use Rattle.linear.specs.Ops.{Ops, ops}
+use Rattle.linear.specs.Triples.{triple, add3, sub3, scale3, cross3}
+use Rattle.linear.specs.Matrices.{symmetric, full, times}
 use Rattle.spatial.specs.declared.vectors.Motion.{Motion}
 use Rattle.spatial.specs.declared.vectors.Force.{Force}
 use Rattle.spatial.specs.declared.link.Link.{Link}

@@ -1,7 +1,7 @@
 -- Motions (ω; v) and forces (n; f).
 use Rattle.ring.specs.CommRing.{CommRing}
-use Rattle.spatial.specs.Ops.{Ops, ops}
-use Rattle.spatial.specs.Triples.{triple, zero3, add3, scale3, dot3, cross3}
+use Rattle.linear.specs.Ops.{Ops, ops}
+use Rattle.linear.specs.Triples.{triple, zero3, third3, add3, scale3, dot3, cross3}
 use Rattle.spatial.specs.declared.vectors.Motion.{Motion}
 use Rattle.spatial.specs.declared.vectors.Force.{Force}
 
@@ -17,7 +17,11 @@ module _ {N : Type 0} (o : Ops N) where
 
   -- (0, 0, 1; 0, 0, 0)
   abbrev pub unit-turn-by : Motion N
-  unit-turn-by = record { angular = record { x = o .zero; y = o .zero; z = o .one }; linear = zero3 o }
+  unit-turn-by = record { angular = third3 o; linear = zero3 o }
+
+  -- (0, 0, 0; 0, 0, 1)
+  abbrev pub unit-slide-by : Motion N
+  unit-slide-by = record { angular = zero3 o; linear = third3 o }
 
   abbrev pub motion-add-by : Motion N → Motion N → Motion N
   motion-add-by a b = record { angular = add3 o (a .angular) (b .angular); linear = add3 o (a .linear) (b .linear) }
@@ -25,8 +29,14 @@ module _ {N : Type 0} (o : Ops N) where
   abbrev pub motion-scale-by : N → Motion N → Motion N
   motion-scale-by s a = record { angular = scale3 o s (a .angular); linear = scale3 o s (a .linear) }
 
+  abbrev pub force-zero-by : Force N
+  force-zero-by = record { moment = zero3 o; linear = zero3 o }
+
   abbrev pub force-add-by : Force N → Force N → Force N
   force-add-by a b = record { moment = add3 o (a .moment) (b .moment); linear = add3 o (a .linear) (b .linear) }
+
+  abbrev pub force-scale-by : N → Force N → Force N
+  force-scale-by s w = record { moment = scale3 o s (w .moment); linear = scale3 o s (w .linear) }
 
   -- ω · n + v · f
   abbrev pub pairing-by : Motion N → Force N → N
@@ -56,14 +66,23 @@ module _ {N : Type 0} (k : CommRing N) where
   unfoldable pub unit-turn : Motion N
   unit-turn = unit-turn-by (ops k)
 
+  unfoldable pub unit-slide : Motion N
+  unit-slide = unit-slide-by (ops k)
+
   unfoldable pub motion-add : Motion N → Motion N → Motion N
   motion-add = motion-add-by (ops k)
 
   unfoldable pub motion-scale : N → Motion N → Motion N
   motion-scale = motion-scale-by (ops k)
 
+  unfoldable pub force-zero : Force N
+  force-zero = force-zero-by (ops k)
+
   unfoldable pub force-add : Force N → Force N → Force N
   force-add = force-add-by (ops k)
+
+  unfoldable pub force-scale : N → Force N → Force N
+  force-scale = force-scale-by (ops k)
 
   unfoldable pub pairing : Motion N → Force N → N
   pairing = pairing-by (ops k)

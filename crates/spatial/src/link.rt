@@ -2,14 +2,14 @@
 ghost use mathlib.Core.Path.{_≡_};
 ghost use Rattle.spatial.specs.Vectors.{motion, force};
 ghost use Rattle.spatial.specs.Links.{link, momentum};
-use crate::matrix::Symmetric3;
-use crate::matrix::Symmetric3Clone;
-use crate::triple::Triple;
-use crate::triple::TripleAdd;
-use crate::triple::TripleClone;
-use crate::triple::TripleSub;
 use crate::vectors::Force;
 use crate::vectors::Motion;
+use linear::Symmetric3;
+use linear::Symmetric3Clone;
+use linear::Triple;
+use linear::TripleAdd;
+use linear::TripleClone;
+use linear::TripleSub;
 use ring::Ring;
 
 // Its mass m, first moment h and inertia J about its origin.

@@ -1,14 +1,16 @@
 // Placements of one frame in another.
 ghost use mathlib.Core.Path.{_≡_};
 ghost use Rattle.std.specs.Options.{mapped};
-ghost use Rattle.spatial.specs.Vectors.{motion};
-ghost use Rattle.spatial.specs.Placements.{placement, outward, turn-norm, turned, turn};
-use crate::matrix::Matrix3;
-use crate::matrix::Matrix3Clone;
-use crate::triple::Triple;
-use crate::triple::TripleClone;
-use crate::triple::TripleSub;
+ghost use Rattle.spatial.specs.Vectors.{motion, force};
+ghost use Rattle.spatial.specs.Placements.{placement, outward, inward, turned, turn, slid};
+use crate::vectors::Force;
 use crate::vectors::Motion;
+use linear::Matrix3;
+use linear::Matrix3Clone;
+use linear::Triple;
+use linear::TripleAdd;
+use linear::TripleClone;
+use linear::TripleSub;
 use ring::Ring;
 
 // A 3 by 3 matrix E and a triple r.
@@ -26,6 +28,18 @@ impl<R: Ring> Placement<R> {
         Motion {
             angular: self.rotation.apply(m.angular),
             linear: self.rotation.apply(m.linear - self.offset.cross(m.angular)),
+        }
+    }
+
+    // A force, carried back out of the placed frame: (E' n + r × (E' f); E' f).
+    pub fn inward(self, w: Force<R>) -> Force<R>
+        ensures { λ r. ⌜ force (R·Ring .value) r ≡ inward (R·Ring .ring) (placement (R·Ring .value) self) (force (R·Ring .value) w) ⌝ }
+    {
+        let back = self.rotation.transpose();
+        let linear = back.apply(w.linear);
+        Force {
+            moment: back.apply(w.moment) + self.offset.cross(linear),
+            linear,
         }
     }
 
@@ -60,5 +74,21 @@ impl<R: Ring> Placement<R> {
     {
         let i = R::one().add(t.mul(t)).inverse()?;
         Some(Placement::turned(t, i))
+    }
+
+    // The slide along the third axis by `q`.
+    pub fn slide(q: R) -> Placement<R>
+        ensures { λ r. ⌜ placement (R·Ring .value) r ≡ slid (R·Ring .ring) (R·Ring .value q) ⌝ }
+    {
+        let e = R::one();
+        let o = R::zero();
+        Placement {
+            rotation: Matrix3 {
+                x: Triple { x: e, y: o, z: o },
+                y: Triple { x: o, y: e, z: o },
+                z: Triple { x: o, y: o, z: e },
+            },
+            offset: Triple { x: o, y: o, z: q },
+        }
     }
 }

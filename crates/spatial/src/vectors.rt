@@ -1,9 +1,9 @@
 // Motions (ω; v) and forces (n; f) of a rigid body.
 ghost use mathlib.Core.Path.{_≡_};
-ghost use Rattle.spatial.specs.Vectors.{motion, force, motion-zero, unit-turn, motion-add, motion-scale, force-add, pairing, motion-cross, force-cross};
-use crate::triple::Triple;
-use crate::triple::TripleAdd;
-use crate::triple::TripleClone;
+ghost use Rattle.spatial.specs.Vectors.{motion, force, motion-zero, unit-turn, unit-slide, motion-add, motion-scale, force-zero, force-add, force-scale, pairing, motion-cross, force-cross};
+use linear::Triple;
+use linear::TripleAdd;
+use linear::TripleClone;
 use ring::Ring;
 use std::ops::Add;
 
@@ -49,9 +49,10 @@ impl<R: Ring> Motion<R> {
     pub fn zero() -> Motion<R>
         ensures { λ r. ⌜ motion (R·Ring .value) r ≡ motion-zero (R·Ring .ring) ⌝ }
     {
+        let zero = Triple::zero();
         Motion {
-            angular: Triple::zero(),
-            linear: Triple::zero(),
+            angular: zero,
+            linear: zero,
         }
     }
 
@@ -60,12 +61,18 @@ impl<R: Ring> Motion<R> {
         ensures { λ r. ⌜ motion (R·Ring .value) r ≡ unit-turn (R·Ring .ring) ⌝ }
     {
         Motion {
-            angular: Triple {
-                x: R::zero(),
-                y: R::zero(),
-                z: R::one(),
-            },
+            angular: Triple::third_axis(),
             linear: Triple::zero(),
+        }
+    }
+
+    // A unit slide along the third axis.
+    pub fn unit_slide() -> Motion<R>
+        ensures { λ r. ⌜ motion (R·Ring .value) r ≡ unit-slide (R·Ring .ring) ⌝ }
+    {
+        Motion {
+            angular: Triple::zero(),
+            linear: Triple::third_axis(),
         }
     }
 
@@ -102,6 +109,26 @@ impl<R: Ring> Motion<R> {
         Force {
             moment: self.angular.cross(other.moment) + self.linear.cross(other.linear),
             linear: self.angular.cross(other.linear),
+        }
+    }
+}
+
+impl<R: Ring> Force<R> {
+    pub fn zero() -> Force<R>
+        ensures { λ r. ⌜ force (R·Ring .value) r ≡ force-zero (R·Ring .ring) ⌝ }
+    {
+        Force {
+            moment: Triple::zero(),
+            linear: Triple::zero(),
+        }
+    }
+
+    pub fn scale(self, by: R) -> Force<R>
+        ensures { λ r. ⌜ force (R·Ring .value) r ≡ force-scale (R·Ring .ring) (R·Ring .value by) (force (R·Ring .value) self) ⌝ }
+    {
+        Force {
+            moment: self.moment.scale(by),
+            linear: self.linear.scale(by),
         }
     }
 }

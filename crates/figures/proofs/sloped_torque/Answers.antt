@@ -8,7 +8,9 @@ use Rattle.figures.proofs.sloped_torque.Needs as need
 
 pub returns : need.returns
 returns c =
-    torque-of (dual-map (residue-value 2147483647)) (dual-parts one-part) (c .torque .result)
-    ∙ ap (mapped (λ s. dual-parts one-part (s .torque)))
-    (c .torque .ensures .is ∙ ap (newton-euler (duals (residues 2147483647))) (c .sloped-arm .ensures))
-    ∙ slope-figure
+    let is = c .torque .ensures .is ∙ ap (newton-euler (duals (residues 2147483647))) (c .sloped-arm .ensures) in
+    record {
+      is = is;
+      figure =
+          torque-of (dual-map (residue-value 2147483647)) (dual-parts one-part) (c .torque .result) ∙ ap (mapped (λ s. dual-parts one-part (s .torque))) is ∙ slope-figure;
+    }

@@ -1,6 +1,6 @@
 use mathlib.Core.Path.{_≡_, ap, _∙_}
-use Rattle.spatial.specs.Ops.{ops}
-use Rattle.spatial.specs.Triples.{triple}
+use Rattle.linear.specs.Ops.{ops}
+use Rattle.linear.specs.Triples.{triple}
 use Rattle.spatial.specs.Vectors.{motion, force, motion-zero, unit-turn, motion-add, motion-scale, motion-cross, force-add, force-cross, pairing}
 use Rattle.spatial.specs.Placements.{placement, outward}
 use Rattle.spatial.specs.Links.{link, momentum}

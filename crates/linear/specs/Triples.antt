@@ -1,6 +1,6 @@
 -- Triples of numbers.
-use Rattle.spatial.specs.Ops.{Ops}
-use Rattle.spatial.specs.declared.triple.Triple.{Triple}
+use Rattle.linear.specs.Ops.{Ops}
+use Rattle.linear.specs.declared.triple.Triple.{Triple}
 
 -- each entry by f
 abbrev pub triple : {S N : Type 0} → (S → N) → Triple S → Triple N
@@ -14,6 +14,10 @@ module _ {N : Type 0} (o : Ops N) where
 
   abbrev pub zero3 : Triple N
   zero3 = record { x = o .zero; y = o .zero; z = o .zero }
+
+  -- (0, 0, 1)
+  abbrev pub third3 : Triple N
+  third3 = record { x = o .zero; y = o .zero; z = o .one }
 
   abbrev pub add3 : Triple N → Triple N → Triple N
   add3 a b = record { x = add (a .x) (b .x); y = add (a .y) (b .y); z = add (a .z) (b .z) }

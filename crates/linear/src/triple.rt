@@ -1,7 +1,7 @@
 // Triples of ring numbers.
 ghost use mathlib.Core.Path.{_≡_};
-ghost use Rattle.spatial.specs.Ops.{ops};
-ghost use Rattle.spatial.specs.Triples.{triple, zero3, add3, neg3, sub3, scale3, dot3, cross3};
+ghost use Rattle.linear.specs.Ops.{ops};
+ghost use Rattle.linear.specs.Triples.{triple, zero3, third3, add3, neg3, sub3, scale3, dot3, cross3};
 use ring::Ring;
 use std::ops::Add;
 use std::ops::Neg;
@@ -60,10 +60,22 @@ impl<R: Ring> Triple<R> {
     pub fn zero() -> Triple<R>
         ensures { λ r. ⌜ triple (R·Ring .value) r ≡ zero3 (ops (R·Ring .ring)) ⌝ }
     {
+        let zero = R::zero();
+        Triple {
+            x: zero,
+            y: zero,
+            z: zero,
+        }
+    }
+
+    // (0, 0, 1)
+    pub fn third_axis() -> Triple<R>
+        ensures { λ r. ⌜ triple (R·Ring .value) r ≡ third3 (ops (R·Ring .ring)) ⌝ }
+    {
         Triple {
             x: R::zero(),
             y: R::zero(),
-            z: R::zero(),
+            z: R::one(),
         }
     }
 

@@ -1,0 +1,2 @@
+pub mod SpatialLaws
+pub mod SpatialMaps
