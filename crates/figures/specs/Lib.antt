@@ -1,2 +1,3 @@
 pub mod Arm
+pub mod Rigs
 pub mod Known

@@ -1,3 +1,4 @@
 pub mod Quote
 pub mod Laws
 pub mod Maps
+pub mod Modules

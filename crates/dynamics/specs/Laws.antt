@@ -1,0 +1,130 @@
+-- What the recursions promise, in every ring.
+use mathlib.Core.Path.{_≡_}
+use Prim.Native.Nat.{ℕ, zero, suc, _≤_, _<_}
+use Rattle.ring.specs.CommRing.{CommRing}
+use Rattle.tree_laws.specs.Tree.{sum, Desc, Reaches, unit-at, inward}
+use Rattle.tree_laws.specs.Children.{children}
+use Rattle.tree_laws.specs.Words.{composite, climb}
+use Rattle.tree_laws.specs.Articulated.{Explained}
+use Rattle.spatial.specs.Vectors.{motion-zero, motion-add, motion-scale, force-add, pairing}
+use Rattle.spatial.specs.declared.vectors.Motion.{Motion}
+use Rattle.spatial.specs.declared.vectors.Force.{Force}
+use Rattle.joint.specs.Joints.{joint-outward}
+use Rattle.dynamics.specs.Held.{Held, held, moving, par}
+use Rattle.dynamics.specs.Modules.{motions, forces, power, tree}
+use Rattle.dynamics.specs.Recursions.{Outcome, refused, found, S, own-inertia, spin, velocity, drift, bias, base, accelerated, torques, masses, articulated, accelerations}
+
+module _ {N : Type 0} (k : CommRing N) where
+  -- the sum of f over the joints 1 to n
+  abbrev pub over-joints : Held N → (ℕ → N) → N
+  over-joints h f = sum k (motions k) (forces k) (power k) (tree k h) (h .n) f
+
+  -- no accelerations
+  abbrev pub still : Held N → Held N
+  still h = moving h (λ _. k .zero)
+
+  -- i is carried by j: it is j, or its parent is carried by j
+  abbrev pub Carried : Held N → ℕ → ℕ → Type 0
+  Carried h i j = Desc k (motions k) (forces k) (power k) (tree k h) i j
+
+  -- the accelerations q have the torques f
+  abbrev pub Has : Held N → (ℕ → N) → (ℕ → N) → Type 0
+  Has h q f = (i : ℕ) → i < h .n → torques k (moving h q) (suc i) ≡ f (suc i)
+
+  -- some accelerations of the branch of j, multiplied by the branch matrix, make the torques y
+  abbrev pub Gives : Held N → ℕ → (ℕ → N) → Type 0
+  Gives h = Reaches k (motions k) (forces k) (power k) (tree k h) (h .n) (own-inertia k h)
+
+  -- the torque one at joint j, and zero at all others
+  abbrev pub unit-torque : Held N → ℕ → ℕ → N
+  unit-torque h = unit-at k (motions k) (forces k) (power k) (tree k h)
+
+  -- j is the highest joint whose branch matrix cannot give some torques
+  pub record Highest (h : Held N) (j : ℕ) : Type 0 where
+    pub low : 0 < j
+    pub high : j ≤ h .n
+    pub here : (y : ℕ → N) × (Gives h j y → ⊥)
+    pub above : (i : ℕ) → j < i → i ≤ h .n → (y : ℕ → N) → Gives h i y
+
+  -- accelerations that are found have the held forces as torques, and no others do; else the refused joint is the highest,
+  -- and what its branch matrix cannot give is the unit torque at that joint
+  abbrev pub Settles : Held N → Outcome N → Type 0
+  Settles h (found q) =
+      Has h q (h .force) × ((q′ : ℕ → N) → Has h q′ (h .force) → (i : ℕ) → i < h .n → q′ (suc i) ≡ q (suc i))
+  Settles h (refused j) = Highest h j × (Gives h j (unit-torque h j) → ⊥)
+
+  -- Iᵢ aᵢ + vᵢ ×* Iᵢ vᵢ
+  abbrev pub own-force : Held N → ℕ → Force N
+  own-force h i = force-add k (own-inertia k h i (accelerated k h i)) (bias k h i)
+
+  -- the sum of Xⱼ′ f j over the children j of i
+  abbrev pub from-children : Held N → ℕ → (ℕ → Force N) → Force N
+  from-children h = children k (motions k) (forces k) (power k) (tree k h) (h .n)
+
+  -- fᵢ, by the loop from n down to 1 that adds each to its parent's
+  abbrev pub joint-force : Held N → ℕ → Force N
+  joint-force h = inward k (motions k) (forces k) (power k) (tree k h) (h .n) (own-force h)
+
+  -- Kᵢ, by the same loop
+  abbrev pub composites : Held N → ℕ → Motion N → Force N
+  composites h = composite k (motions k) (forces k) (power k) (tree k h) (h .n) (own-inertia k h)
+
+  -- the force G at joint i, stepped to the parent until it comes to joint j, and paired with S there; zero if it does not
+  abbrev pub climbed : Held N → ℕ → Force N → ℕ → N
+  climbed h i G j = climb k (motions k) (forces k) (power k) (tree k h) i i G j
+
+  pub record DynamicsLaws : Type 0 where
+    -- v₀ = 0 and vᵢ = Xᵢ vₚ + S q̇ᵢ
+    pub velocity-base : (h : Held N) → velocity k h 0 ≡ motion-zero k
+    pub velocity-parent :
+        (h : Held N) (i : ℕ)
+        → velocity k h (suc i)
+        ≡ motion-add k (joint-outward k (h .joints (suc i)) (velocity k h (par h (suc i)))) (spin k h (suc i))
+    -- a₀ = (0; −g) and aᵢ = Xᵢ aₚ + cᵢ + S q̈ᵢ
+    pub acceleration-base : (h : Held N) → accelerated k h 0 ≡ base k h 0
+    pub acceleration-parent :
+        (h : Held N) (i : ℕ) → i < h .n
+        → accelerated k h (suc i)
+        ≡ motion-add k (motion-add k (joint-outward k (h .joints (suc i)) (accelerated k h (par h (suc i)))) (drift k h (suc i))) (motion-scale k (h .acceleration (suc i)) (S k h (suc i)))
+    -- fᵢ is its own plus Xⱼ′ fⱼ for each child j, no other table is so, and the torque is S · fᵢ
+    pub force-children : (h : Held N) (i : ℕ) → i ≤ h .n → joint-force h i ≡ force-add k (own-force h i) (from-children h i (joint-force h))
+    pub force-only :
+        (h : Held N) (f : ℕ → Force N) → ((i : ℕ) → i ≤ h .n → f i ≡ force-add k (own-force h i) (from-children h i f))
+        → (i : ℕ) → i ≤ h .n → f i ≡ joint-force h i
+    pub torque-paired : (h : Held N) (i : ℕ) → torques k h i ≡ pairing k (S k h i) (joint-force h i)
+    -- Kᵢ is Iᵢ plus Xⱼ′ Kⱼ Xⱼ for each child j
+    pub composite-children :
+        (h : Held N) (i : ℕ) (m : Motion N)
+        → composites h i m ≡ force-add k (own-inertia k h i m) (from-children h i (λ j. composites h j (joint-outward k (h .joints j) m)))
+    -- F = Kᵢ S, entry (i, i) is S · F, and each step to the parent gives the next entry; the rest of the row by the mirror
+    pub masses-climb :
+        (h : Held N) (i j : ℕ) → i < h .n → j ≤ i
+        → masses k h (suc i) (suc j) ≡ climbed h (suc i) (composites h (suc i) (S k h (suc i))) (suc j)
+    -- accelerations that are found come from tables A, b and D⁻¹ that the children hand down, and outward from the base
+    pub accelerations-articulated :
+        (h : Held N)
+        → Explained k (motions k) (forces k) (power k) (tree k h) (drift k h) (base k h) (k .inverse) (h .force) (h .n) (own-inertia k h) (bias k h) (articulated k h)
+    -- torques are the mass matrix times the accelerations, plus the torques of zero accelerations
+    pub torques-split :
+        (h : Held N) (i : ℕ) → i < h .n
+        → torques k h (suc i)
+        ≡ k .add (over-joints h (λ j. k .mul (masses k h (suc i) j) (h .acceleration j))) (torques k (still h) (suc i))
+    -- the matrix equals its mirror image
+    pub masses-mirror : (h : Held N) (i j : ℕ) → masses k h i j ≡ masses k h j i
+    -- entries of joints of which neither carries the other are zero
+    pub masses-apart :
+        (h : Held N) (i j : ℕ) → i ≤ h .n → j ≤ h .n → (Carried h i j → ⊥) → (Carried h j i → ⊥) → masses k h i j ≡ k .zero
+    pub accelerations-settle : (h : Held N) → Settles h (accelerations k h)
+    -- no other joint than the refused one is the highest such joint
+    pub highest-refused : (h : Held N) (j : ℕ) → Highest h j → accelerations k h ≡ refused j
+
+-- φ taken number by number
+abbrev pub outcome-map : {N M : Type 0} → (N → M) → Outcome N → Outcome M
+outcome-map φ (refused j) = refused j
+outcome-map φ (found q) = found (λ i. φ (q i))
+
+-- the recursions commute with φ, refusals included
+pub record DynamicsMap {N M : Type 0} (k : CommRing N) (l : CommRing M) (φ : N → M) : Type 0 where
+  pub torques-map : (h : Held N) (i : ℕ) → φ (torques k h i) ≡ torques l (held φ h) i
+  pub masses-map : (h : Held N) (i j : ℕ) → φ (masses k h i j) ≡ masses l (held φ h) i j
+  pub accelerations-map : (h : Held N) → outcome-map φ (accelerations k h) ≡ accelerations l (held φ h)

@@ -1,0 +1,9 @@
+pub mod Space
+pub mod Tree
+pub mod Natural
+pub mod Sweep
+pub mod Children
+pub mod Theorems
+pub mod Found
+pub mod Words
+pub mod Articulated
