@@ -3,16 +3,14 @@ use mathlib.Core.Path.{_≡_}
 use Prim.Native.Nat.{ℕ, zero, suc, _≤_, _<_}
 use Rattle.ring.specs.CommRing.{CommRing}
 use Rattle.tree_laws.specs.Tree.{sum, Desc, Reaches, unit-at, inward}
-use Rattle.tree_laws.specs.Children.{children}
-use Rattle.tree_laws.specs.Words.{composite, climb}
-use Rattle.tree_laws.specs.Articulated.{Explained}
-use Rattle.spatial.specs.Vectors.{motion-zero, motion-add, motion-scale, force-add, pairing}
+use Rattle.tree_laws.specs.Words.{composite}
+use Rattle.spatial.specs.Vectors.{force-add}
 use Rattle.spatial.specs.declared.vectors.Motion.{Motion}
 use Rattle.spatial.specs.declared.vectors.Force.{Force}
-use Rattle.joint.specs.Joints.{joint-outward}
-use Rattle.dynamics.specs.Held.{Held, held, moving, par}
+use Rattle.dynamics.specs.Held.{Held, held, moving}
 use Rattle.dynamics.specs.Modules.{motions, forces, power, tree}
-use Rattle.dynamics.specs.Recursions.{Outcome, refused, found, S, own-inertia, spin, velocity, drift, bias, base, accelerated, torques, masses, articulated, accelerations}
+use Rattle.dynamics.specs.Recursions.{Outcome, refused, found, own-inertia, velocity, bias, accelerated, torques, masses, accelerations}
+use Rattle.dynamics.specs.Tables.{NewtonEuler, CompositeBodies, ArticulatedBodies, RefusedBody}
 
 module _ {N : Type 0} (k : CommRing N) where
   -- the sum of f over the joints 1 to n
@@ -57,10 +55,6 @@ module _ {N : Type 0} (k : CommRing N) where
   abbrev pub own-force : Held N → ℕ → Force N
   own-force h i = force-add k (own-inertia k h i (accelerated k h i)) (bias k h i)
 
-  -- the sum of Xⱼ′ f j over the children j of i
-  abbrev pub from-children : Held N → ℕ → (ℕ → Force N) → Force N
-  from-children h = children k (motions k) (forces k) (power k) (tree k h) (h .n)
-
   -- fᵢ, by the loop from n down to 1 that adds each to its parent's
   abbrev pub joint-force : Held N → ℕ → Force N
   joint-force h = inward k (motions k) (forces k) (power k) (tree k h) (h .n) (own-force h)
@@ -69,41 +63,24 @@ module _ {N : Type 0} (k : CommRing N) where
   abbrev pub composites : Held N → ℕ → Motion N → Force N
   composites h = composite k (motions k) (forces k) (power k) (tree k h) (h .n) (own-inertia k h)
 
-  -- the force G at joint i, stepped to the parent until it comes to joint j, and paired with S there; zero if it does not
-  abbrev pub climbed : Held N → ℕ → Force N → ℕ → N
-  climbed h i G j = climb k (motions k) (forces k) (power k) (tree k h) i i G j
+  -- accelerations that are found come from tables of articulated bodies; else the refused joint is where they stop
+  abbrev pub Articulated : Held N → Outcome N → Type 0
+  Articulated h (found q) =
+      (A : ℕ → Motion N → Force N) × (b : ℕ → Force N) × (d : ℕ → N) × (a : ℕ → Motion N) × ArticulatedBodies k h A b d q a
+  Articulated h (refused j) = (A : ℕ → Motion N → Force N) × (d : ℕ → N) × RefusedBody k h A d j
 
   pub record DynamicsLaws : Type 0 where
-    -- v₀ = 0 and vᵢ = Xᵢ vₚ + S q̇ᵢ
-    pub velocity-base : (h : Held N) → velocity k h 0 ≡ motion-zero k
-    pub velocity-parent :
-        (h : Held N) (i : ℕ)
-        → velocity k h (suc i)
-        ≡ motion-add k (joint-outward k (h .joints (suc i)) (velocity k h (par h (suc i)))) (spin k h (suc i))
-    -- a₀ = (0; −g) and aᵢ = Xᵢ aₚ + cᵢ + S q̈ᵢ
-    pub acceleration-base : (h : Held N) → accelerated k h 0 ≡ base k h 0
-    pub acceleration-parent :
-        (h : Held N) (i : ℕ) → i < h .n
-        → accelerated k h (suc i)
-        ≡ motion-add k (motion-add k (joint-outward k (h .joints (suc i)) (accelerated k h (par h (suc i)))) (drift k h (suc i))) (motion-scale k (h .acceleration (suc i)) (S k h (suc i)))
-    -- fᵢ is its own plus Xⱼ′ fⱼ for each child j, no other table is so, and the torque is S · fᵢ
-    pub force-children : (h : Held N) (i : ℕ) → i ≤ h .n → joint-force h i ≡ force-add k (own-force h i) (from-children h i (joint-force h))
-    pub force-only :
-        (h : Held N) (f : ℕ → Force N) → ((i : ℕ) → i ≤ h .n → f i ≡ force-add k (own-force h i) (from-children h i f))
-        → (i : ℕ) → i ≤ h .n → f i ≡ joint-force h i
-    pub torque-paired : (h : Held N) (i : ℕ) → torques k h i ≡ pairing k (S k h i) (joint-force h i)
-    -- Kᵢ is Iᵢ plus Xⱼ′ Kⱼ Xⱼ for each child j
-    pub composite-children :
-        (h : Held N) (i : ℕ) (m : Motion N)
-        → composites h i m ≡ force-add k (own-inertia k h i m) (from-children h i (λ j. composites h j (joint-outward k (h .joints j) m)))
-    -- F = Kᵢ S, entry (i, i) is S · F, and each step to the parent gives the next entry; the rest of the row by the mirror
-    pub masses-climb :
-        (h : Held N) (i j : ℕ) → i < h .n → j ≤ i
-        → masses k h (suc i) (suc j) ≡ climbed h (suc i) (composites h (suc i) (S k h (suc i))) (suc j)
-    -- accelerations that are found come from tables A, b and D⁻¹ that the children hand down, and outward from the base
-    pub accelerations-articulated :
-        (h : Held N)
-        → Explained k (motions k) (forces k) (power k) (tree k h) (drift k h) (base k h) (k .inverse) (h .force) (h .n) (own-inertia k h) (bias k h) (articulated k h)
+    -- the loops make the tables of Newton and Euler, and no other tables have other torques
+    pub torques-tables : (h : Held N) → NewtonEuler k h (velocity k h) (accelerated k h) (joint-force h) (torques k h)
+    pub torques-only :
+        (h : Held N) (v a : ℕ → Motion N) (f : ℕ → Force N) (τ : ℕ → N) → NewtonEuler k h v a f τ
+        → (i : ℕ) → i < h .n → τ (suc i) ≡ torques k h (suc i)
+    -- the loops make the tables of composite bodies, and no other tables have another matrix
+    pub masses-tables : (h : Held N) → CompositeBodies k h (composites h) (masses k h)
+    pub masses-only :
+        (h : Held N) (K : ℕ → Motion N → Force N) (H : ℕ → ℕ → N) → CompositeBodies k h K H
+        → (i j : ℕ) → i < h .n → j < h .n → H (suc i) (suc j) ≡ masses k h (suc i) (suc j)
+    pub accelerations-tables : (h : Held N) → Articulated h (accelerations k h)
     -- torques are the mass matrix times the accelerations, plus the torques of zero accelerations
     pub torques-split :
         (h : Held N) (i : ℕ) → i < h .n

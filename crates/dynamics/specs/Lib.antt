@@ -2,4 +2,5 @@ pub mod Held
 pub mod Given
 pub mod Modules
 pub mod Recursions
+pub mod Tables
 pub mod Laws

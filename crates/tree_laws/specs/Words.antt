@@ -29,24 +29,22 @@ module _ {Car Mot For : Type 0} (R : CommRing Car) (M : Module Car R Mot) (F : M
 
   -- f gives each joint what is its own and what its children carry to it
   abbrev pub Balances : ℕ → (ℕ → For) → (ℕ → For) → Type 0
-  Balances n own f = (i : ℕ) → i ≤ n → f i ≡ own i ⊞ children R M F P t n i f
+  Balances n own f = (i : ℕ) → i < n → f (suc i) ≡ own (suc i) ⊞ children R M F P t n (suc i) f
 
   pub inward-balances : (n : ℕ) (own : ℕ → For) → Balances n own (inward R M F P t n own)
-  inward-balances n own i l = by-children R M F P t n own i
+  inward-balances n own i l = by-children R M F P t n own (suc i)
 
-  -- and it is the only table that does
-  pub inward-only : (n : ℕ) (own f : ℕ → For) → Balances n own f → (i : ℕ) → i ≤ n → f i ≡ inward R M F P t n own i
-  inward-only n own f b i l = down n i (omega arith) l
+  -- no two tables do
+  pub balances-once : (n : ℕ) (own f g : ℕ → For) → Balances n own f → Balances n own g → (i : ℕ) → i < n → f (suc i) ≡ g (suc i)
+  balances-once n own f g b c i l = down n (suc i) (omega arith) (omega arith) l
     where
-      down : (d i : ℕ) → n ≤ i + d → i ≤ n → f i ≡ inward R M F P t n own i
-      down zero i far l =
+      down : (d j : ℕ) → n < j + d → 0 < j → j ≤ n → f j ≡ g j
+      down zero j far pos l = absurd (omega arith)
+      down (suc d) zero far pos l = absurd (omega arith)
+      down (suc d) (suc i) far pos l =
           b i l
-          ∙ ap (λ x. own i ⊞ x) (children-above n i f (inward R M F P t n own) (λ j a c. absurd (omega arith)))
-          ∙ sym (inward-balances n own i l)
-      down (suc d) i far l =
-          b i l
-          ∙ ap (λ x. own i ⊞ x) (children-above n i f (inward R M F P t n own) (λ j a c. down d j (omega arith) c))
-          ∙ sym (inward-balances n own i l)
+          ∙ ap (λ x. own (suc i) ⊞ x) (children-above n (suc i) f g (λ j x y. down d j (omega arith) (omega arith) y))
+          ∙ sym (c i l)
 
   abbrev Op : Type 0
   Op = Mot → For
@@ -82,6 +80,23 @@ module _ {Car Mot For : Type 0} (R : CommRing Car) (M : Module Car R Mot) (F : M
 
       swap : (x y z : For) → x ⊞ y ⊞ z ≡ x ⊞ (z ⊞ y)
       swap x y z = plus-assoc x y z ∙ ap (λ w. x ⊞ w) (plus-comm y z)
+
+  -- and no other table of inertias is so
+  pub composite-once :
+      (n : ℕ) (own K L : ℕ → Op)
+      → ((i : ℕ) → i < n → (m : Mot) → K (suc i) m ≡ own (suc i) m ⊞ children R M F P t n (suc i) (λ j. K j (X j m)))
+      → ((i : ℕ) → i < n → (m : Mot) → L (suc i) m ≡ own (suc i) m ⊞ children R M F P t n (suc i) (λ j. L j (X j m)))
+      → (i : ℕ) → i < n → (m : Mot) → K (suc i) m ≡ L (suc i) m
+  composite-once n own K L b c i l m = down n (suc i) (omega arith) (omega arith) l m
+    where
+      down : (d j : ℕ) → n < j + d → 0 < j → j ≤ n → (m : Mot) → K j m ≡ L j m
+      down zero j far pos l m = absurd (omega arith)
+      down (suc d) zero far pos l m = absurd (omega arith)
+      down (suc d) (suc i) far pos l m =
+          b i l m
+          ∙ ap (λ x. own (suc i) m ⊞ x)
+          (children-above n (suc i) (λ j. K j (X j m)) (λ j. L j (X j m)) (λ j x y. down d j (omega arith) (omega arith) y (X j m)))
+          ∙ sym (c i l m)
 
   -- entry (i, j) of the matrix, for j not above i: Kᵢ S taken step by step to the parent, and paired with S of j
   pub mass-climbs :
