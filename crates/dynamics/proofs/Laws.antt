@@ -14,14 +14,15 @@ use Rattle.tree_laws.specs.Theorems.{refusal-is-right}
 use Rattle.tree_laws.specs.Found.{Good, found-units}
 use Rattle.dynamics.specs.Held.{Held, moving, par}
 use Rattle.dynamics.specs.Modules.{motions, forces, power, tree}
-use Rattle.dynamics.specs.Recursions.{refused, found, S, own-inertia, spin, velocity-within, velocity, drift, bias, base, accelerated, torques, masses, articulated, outcome, accelerations}
+use Rattle.dynamics.specs.Recursions.{Outcome, refused, found, S, own-inertia, spin, velocity-within, velocity, drift, bias, base, accelerated, torques, masses, articulated, outcome, accelerations}
 use Rattle.tree_laws.specs.Tree.{forces as forces-at}
 use Rattle.tree_laws.specs.Words.{inward-balances, balances-once, composite-children, composite-once, mass-climbs, walk-is-climb}
 use Rattle.tree_laws.specs.Articulated.{Halts, Explained, aba-explained}
 use Rattle.spatial.specs.Vectors.{motion-add, motion-scale, motion-cross, force-add, force-cross, pairing}
 use Rattle.joint.specs.Joints.{joint-outward}
 use Rattle.dynamics.specs.Tables.{from-parent, from-children, climbed, NewtonEuler, CompositeBodies, ArticulatedBodies, RefusedBody}
-use Rattle.dynamics.specs.Laws.{own-force, joint-force, composites, Articulated, Highest, Settles, DynamicsLaws}
+use Rattle.dynamics.proofs.Once.{accelerations-once, not-both, not-lower}
+use Rattle.dynamics.specs.Laws.{own-force, joint-force, composites, Articulated, Finds, Highest, Settles, DynamicsLaws}
 
 module _ {N : Type 0} (k : CommRing N) where
   -- a link's inertia is linear and symmetric
@@ -243,6 +244,31 @@ module _ {N : Type 0} (k : CommRing N) where
         },
       )
 
+  found-only :
+      (h : Held N) (A : ℕ → Motion N → Force N) (b : ℕ → Force N) (d q : ℕ → N) (a : ℕ → Motion N)
+      → ArticulatedBodies k h A b d q a → Finds k h q (accelerations k h)
+  found-only h A b d q a t = go (accelerations k h) (articulated-bodies h)
+    where
+      go : (o : Outcome N) → Articulated k h o → Finds k h q o
+      go (refused j) (B, e, r) = not-both k h A B b d e q a j t r
+      go (found p) (B, c, e, w, s) = accelerations-once k h A B b c d e q p a w t s
+
+  refused-once : (h : Held N) (A : ℕ → Motion N → Force N) (d : ℕ → N) (j : ℕ) → RefusedBody k h A d j → accelerations k h ≡ refused j
+  refused-once h A d j r = go (accelerations k h) (articulated-bodies h)
+    where
+      go : (o : Outcome N) → Articulated k h o → o ≡ refused j
+      go (found p) (B, c, e, w, s) = absurd (not-both k h B A c e d p w j s r)
+      go (refused i) (B, e, s) =
+          ap refused
+          (elim (decLt i j) [
+            | yes l ↦ absurd (not-lower k h B A e d i j l s r)
+            | no g ↦
+                elim (decLt j i) [
+                  | yes l ↦ absurd (not-lower k h A B d e j i l r s)
+                  | no g′ ↦ omega arith
+                ]
+          ])
+
   pub dynamics-laws : DynamicsLaws k
   dynamics-laws =
       record {
@@ -251,6 +277,8 @@ module _ {N : Type 0} (k : CommRing N) where
         masses-tables = composite-bodies;
         masses-only = composite-bodies-only;
         accelerations-tables = articulated-bodies;
+        accelerations-only = found-only;
+        refused-only = refused-once;
         torques-split =
             λ h.
             massive k (motions k) (forces k) (power k) (tree k h) (drift k h) (base k h) (h .n) (h .acceleration) _ _

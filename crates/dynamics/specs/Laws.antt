@@ -69,6 +69,11 @@ module _ {N : Type 0} (k : CommRing N) where
       (A : ℕ → Motion N → Force N) × (b : ℕ → Force N) × (d : ℕ → N) × (a : ℕ → Motion N) × ArticulatedBodies k h A b d q a
   Articulated h (refused j) = (A : ℕ → Motion N → Force N) × (d : ℕ → N) × RefusedBody k h A d j
 
+  -- what is found is q, at the joints 1 to n
+  abbrev pub Finds : Held N → (ℕ → N) → Outcome N → Type 0
+  Finds h q (found p) = (i : ℕ) → i < h .n → q (suc i) ≡ p (suc i)
+  Finds h q (refused j) = ⊥
+
   pub record DynamicsLaws : Type 0 where
     -- the loops make the tables of Newton and Euler, and no other tables have other torques
     pub torques-tables : (h : Held N) → NewtonEuler k h (velocity k h) (accelerated k h) (joint-force h) (torques k h)
@@ -80,7 +85,12 @@ module _ {N : Type 0} (k : CommRing N) where
     pub masses-only :
         (h : Held N) (K : ℕ → Motion N → Force N) (H : ℕ → ℕ → N) → CompositeBodies k h K H
         → (i j : ℕ) → i < h .n → j < h .n → H (suc i) (suc j) ≡ masses k h (suc i) (suc j)
+    -- the loops end as the tables of articulated bodies do, with the same accelerations or the same refused joint
     pub accelerations-tables : (h : Held N) → Articulated h (accelerations k h)
+    pub accelerations-only :
+        (h : Held N) (A : ℕ → Motion N → Force N) (b : ℕ → Force N) (d q : ℕ → N) (a : ℕ → Motion N)
+        → ArticulatedBodies k h A b d q a → Finds h q (accelerations k h)
+    pub refused-only : (h : Held N) (A : ℕ → Motion N → Force N) (d : ℕ → N) (j : ℕ) → RefusedBody k h A d j → accelerations k h ≡ refused j
     -- torques are the mass matrix times the accelerations, plus the torques of zero accelerations
     pub torques-split :
         (h : Held N) (i : ℕ) → i < h .n

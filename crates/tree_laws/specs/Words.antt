@@ -16,7 +16,7 @@ module _ {Car Mot For : Type 0} (R : CommRing Car) (M : Module Car R Mot) (F : M
 
   infixl 60 _⊞_
   -- what the children of i carry to it depends on the joints above i alone
-  children-above :
+  pub children-above :
       (n i : ℕ) (f g : ℕ → For) → ((j : ℕ) → i < j → j ≤ n → f j ≡ g j) → children R M F P t n i f ≡ children R M F P t n i g
   unfolding children
   children-above zero i f g h = refl
