@@ -8,7 +8,7 @@ use Rattle.ring.specs.CommRing.{CommRing}
 use Rattle.spatial.specs.declared.vectors.Motion.{Motion}
 use Rattle.spatial.specs.declared.vectors.Force.{Force}
 use Rattle.spatial_laws.proofs.Laws.{momentum-add, momentum-scale, momentum-symmetric}
-use Rattle.tree_laws.specs.Tree.{left, Inertia, Inverts, aba-right, torque, massive, mass-symmetric, mass-off, outward, outward-moves, Moves, Right, unit-at, fails-bound, onto}
+use Rattle.tree_laws.specs.Tree.{left, Reaches, Inertia, Inverts, aba-right, torque, massive, mass-symmetric, mass-off, outward, outward-moves, Moves, Right, fails-bound, onto}
 use Rattle.tree_laws.specs.Tree.{Outcome as Ended, refused as ended-at, found as ended-with}
 use Rattle.tree_laws.specs.Theorems.{refusal-is-right}
 use Rattle.tree_laws.specs.Found.{Good, found-units}
@@ -22,7 +22,7 @@ use Rattle.spatial.specs.Vectors.{motion-add, motion-scale, motion-cross, force
 use Rattle.joint.specs.Joints.{joint-outward}
 use Rattle.dynamics.specs.Tables.{from-parent, from-children, climbed, NewtonEuler, CompositeBodies, ArticulatedBodies, RefusedBody}
 use Rattle.dynamics.proofs.Once.{accelerations-once, not-both, not-lower}
-use Rattle.dynamics.specs.Laws.{own-force, joint-force, composites, Articulated, Finds, Highest, Settles, DynamicsLaws}
+use Rattle.dynamics.specs.Laws.{own-force, joint-force, composites, Articulated, Finds, Gives, unit-torque, Highest, Settles, DynamicsLaws}
 
 module _ {N : Type 0} (k : CommRing N) where
   -- a link's inertia is linear and symmetric
@@ -55,6 +55,15 @@ module _ {N : Type 0} (k : CommRing N) where
       z : Moving h (λ _. k .zero) (outward k (motions k) (forces k) (power k) (tree k h) (drift k h) (base k h) (λ _. k .zero) (h .n))
       z = moves h (λ _. k .zero)
 
+  abbrev Reached : Held N → ℕ → (ℕ → N) → Type 0
+  Reached h = Reaches k (motions k) (forces k) (power k) (tree k h) (h .n) (own-inertia k h)
+
+  given : (h : Held N) (j : ℕ) (y : ℕ → N) → Reached h j y → Gives k h j y
+  given h j y r = record { by = r .by; off = r .off; gives = r .gives }
+
+  reached : (h : Held N) (j : ℕ) (y : ℕ → N) → Gives k h j y → Reached h j y
+  reached h j y g = record { by = g .by; off = g .off; gives = g .gives }
+
   settle : (h : Held N) → Settles k h (accelerations k h)
   settle h =
       go (articulated k h) refl
@@ -67,7 +76,10 @@ module _ {N : Type 0} (k : CommRing N) where
       go (ended-at j) e r =
           let b = fails-bound k (motions k) (forces k) (power k) (tree k h) (h .n) (own-inertia k h) j r in
           let x = refusal-is-right N (Motion N) (Force N) k (motions k) (forces k) (power k) (tree k h) (k .inverse) (inverts h) (h .n) (own-inertia k h) (inertial h) (drift k h) (base k h) (bias k h) (h .force) j e in
-          (record { low = b .0; high = b .1; here = (unit-at k (motions k) (forces k) (power k) (tree k h) j, x .0); above = x .1 }, x .0)
+          let f = λ (g : Gives k h j (unit-torque k h j)). x .0 (reached h j (unit-torque k h j) g) in (
+            record { low = b .0; high = b .1; here = (unit-torque k h j, f); above = λ i a l y. given h i y (x .1 i a l y) },
+            f,
+          )
       go (ended-with q a) e r = (
         (λ i l. meets h q a (r .answers .moves) i l ∙ r .answers .meet i (omega arith) l),
         (λ q′ g i l. r .only q′ _ (record { moves = moves h q′; meet = λ i _ l. g i l }) .on-q i (omega arith) l),
@@ -79,9 +91,10 @@ module _ {N : Type 0} (k : CommRing N) where
       go (articulated k h) (settle h)
       (λ g.
       w .here .1
+      (given h (suc j) (w .here .0)
       (onto k (motions k) (forces k) (power k) (tree k h) (h .n) (own-inertia k h) (inertial h) j
       (found-units k (motions k) (forces k) (power k) (tree k h) (drift k h) (base k h) (k .inverse) (inverts h) (h .force) (h .n) (own-inertia k h) (bias k h) g j)
-      (w .high) (w .here .0)))
+      (w .high) (w .here .0))))
     where
       go :
           (o : Ended k (motions k) (forces k) (power k) (tree k h)) → Settles k h (outcome k h o)
@@ -94,7 +107,7 @@ module _ {N : Type 0} (k : CommRing N) where
             | yes l ↦ absurd (w .here .1 (t .0 .above (suc j) l (w .high) (w .here .0)))
             | no g ↦
                 elim (decLt (suc j) i) [
-                  | yes l ↦ absurd (t .1 (w .above i l (t .0 .high) (unit-at k (motions k) (forces k) (power k) (tree k h) i)))
+                  | yes l ↦ absurd (t .1 (w .above i l (t .0 .high) (unit-torque k h i)))
                   | no g′ ↦ omega arith
                 ]
           ])

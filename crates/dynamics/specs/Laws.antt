@@ -2,7 +2,7 @@
 use mathlib.Core.Path.{_≡_}
 use Prim.Native.Nat.{ℕ, zero, suc, _≤_, _<_}
 use Rattle.ring.specs.CommRing.{CommRing}
-use Rattle.tree_laws.specs.Tree.{sum, Desc, Reaches, unit-at, inward}
+use Rattle.tree_laws.specs.Tree.{sum, Desc, unit-at, inward}
 use Rattle.tree_laws.specs.Words.{composite}
 use Rattle.spatial.specs.Vectors.{force-add}
 use Rattle.spatial.specs.declared.vectors.Motion.{Motion}
@@ -21,17 +21,19 @@ module _ {N : Type 0} (k : CommRing N) where
   abbrev pub still : Held N → Held N
   still h = moving h (λ _. k .zero)
 
-  -- i is carried by j: it is j, or its parent is carried by j
-  abbrev pub Carried : Held N → ℕ → ℕ → Type 0
-  Carried h i j = Desc k (motions k) (forces k) (power k) (tree k h) i j
+  -- i carries j: j is i, or i carries the parent of j
+  abbrev pub Carries : Held N → ℕ → ℕ → Type 0
+  Carries h i j = Desc k (motions k) (forces k) (power k) (tree k h) i j
 
   -- the accelerations q have the torques f
   abbrev pub Has : Held N → (ℕ → N) → (ℕ → N) → Type 0
   Has h q f = (i : ℕ) → i < h .n → torques k (moving h q) (suc i) ≡ f (suc i)
 
-  -- some accelerations of the branch of j, multiplied by the branch matrix, make the torques y
-  abbrev pub Gives : Held N → ℕ → (ℕ → N) → Type 0
-  Gives h = Reaches k (motions k) (forces k) (power k) (tree k h) (h .n) (own-inertia k h)
+  -- the branch matrix of j gives the torques y: it makes them of some accelerations of the branch, which is all that j carries
+  pub record Gives (h : Held N) (j : ℕ) (y : ℕ → N) : Type 0 where
+    pub by : ℕ → N
+    pub off : (i : ℕ) → (Carries h j i → ⊥) → by i ≡ k .zero
+    pub gives : (i : ℕ) → i < h .n → Carries h j (suc i) → over-joints h (λ l. k .mul (masses k h (suc i) l) (by l)) ≡ y (suc i)
 
   -- the torque one at joint j, and zero at all others
   abbrev pub unit-torque : Held N → ℕ → ℕ → N
@@ -100,7 +102,7 @@ module _ {N : Type 0} (k : CommRing N) where
     pub masses-mirror : (h : Held N) (i j : ℕ) → masses k h i j ≡ masses k h j i
     -- entries of joints of which neither carries the other are zero
     pub masses-apart :
-        (h : Held N) (i j : ℕ) → i ≤ h .n → j ≤ h .n → (Carried h i j → ⊥) → (Carried h j i → ⊥) → masses k h i j ≡ k .zero
+        (h : Held N) (i j : ℕ) → i ≤ h .n → j ≤ h .n → (Carries h i j → ⊥) → (Carries h j i → ⊥) → masses k h i j ≡ k .zero
     pub accelerations-settle : (h : Held N) → Settles h (accelerations k h)
     -- no other joint than the refused one is the highest such joint
     pub highest-refused : (h : Held N) (j : ℕ) → Highest h j → accelerations k h ≡ refused j
