@@ -76,16 +76,18 @@ def snake(name):
     return re.sub("(?<=[a-z])[A-Z]", lambda m: "_" + m[0].lower(), name).replace("-", "_")
 
 
-def turned(text, table, made):
-    """The text with each name of the table respelled, but for what stands right behind one of `made`."""
+def turned(text, table, theirs, made):
+    """The text with each name of the table respelled, but for what stands right behind one of `made`.
+
+    A name of `theirs` is the library's where it stands alone, and a field of the repository's behind a dot.
+    """
     out, at, head, before = [], 0, None, None
     for m in TOKEN.finditer(text):
         between = text[at : m.start()]
         behind = before is not None and between == "."
         name = m[0]
-        keep = behind and before in made and head == before
-        if not behind:
-            head = name
+        keep = before in made and head == before if behind else name in theirs
+        head = head if behind else name
         out += [between, name if keep else table.get(name, name)]
         at, before = m.end(), name
     return "".join(out) + text[at:]
@@ -95,16 +97,15 @@ def antt(path, table):
     text = read(path)
     bare = COMMENT.sub("", text)
     theirs = {n for where, names in IMPORT.findall(bare) if of_library(where) for n in re.split(r"[,\s]+", names)}
-    mine = {old: new for old, new in table.items() if old not in theirs}
     answers = ANSWERS.search(path)
     made = MADE if answers else ()
     goals = {n for n, of in DECLARED.findall(bare) if of.startswith("goal.")} if answers else set()
-    mine = {old: new for old, new in mine.items() if old not in goals}
+    mine = {old: new for old, new in table.items() if old not in goals}
     out, at = [], 0
     for m in COMMENT.finditer(text):
-        out += [turned(text[at : m.start()], mine, made), m[0]]
+        out += [turned(text[at : m.start()], mine, theirs, made), m[0]]
         at = m.end()
-    return "".join(out) + turned(text[at:], mine, made)
+    return "".join(out) + turned(text[at:], mine, theirs, made)
 
 
 def closing(text, i):
@@ -123,7 +124,7 @@ def rattle(path, table):
         if m.start() < at or re.search(r"//[^\n]*$", text[: m.start()].rsplit("\n", 1)[-1]):
             continue
         end = closing(text, m.end()) if text[m.end() : m.end() + 1] == "{" else m.end()
-        out += [text[at : m.start()], turned(text[m.start() : end], table, ())]
+        out += [text[at : m.start()], turned(text[m.start() : end], table, (), ())]
         at = end
     return "".join(out) + text[at:]
 

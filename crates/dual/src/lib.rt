@@ -1,4 +1,6 @@
 // Dual numbers over any ring.
+#![tactic(auto)]
+
 mod dual;
 
 pub use dual::Dual;

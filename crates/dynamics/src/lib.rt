@@ -1,4 +1,6 @@
 // The three recursions over what a rig holds, and their laws.
+#![tactic(auto)]
+
 ghost use Rattle.ring.specs.RingMap.{RingMap};
 ghost use Rattle.dynamics.specs.Laws.{DynamicsLaws, DynamicsMap};
 

@@ -1,4 +1,6 @@
 // Arms and numbers whose figures are known beforehand.
+#![tactic(auto)]
+
 ghost use Rattle.std.specs.Prelude.{◌≡◌, [], ◌∷◌, Some};
 ghost use Rattle.std.specs.Option.{option_map};
 ghost use Rattle.modular.specs.Below.{one_part};

@@ -1,4 +1,6 @@
 // One-axis joints: how they are placed and how they move, over any ring.
+#![tactic(auto)]
+
 mod joint;
 mod kind;
 

@@ -1,4 +1,6 @@
 // A link that turns about a fixed axis, and the torque that moves it.
+#![tactic(auto)]
+
 ghost use Rattle.std.specs.Prelude.{◌≡◌};
 ghost use Rattle.std.specs.Option.{option_map};
 ghost use Rattle.spatial.specs.Placements.{placement};

@@ -1,4 +1,6 @@
 // Works one pendulum's torque through, over the ring A and over its dual numbers, and prints each step.
+#![tactic(auto)]
+
 use figures::{plain_arm, plain_torque, skew_arm, skew_torque, sloped_arm, sloped_torque};
 use pendulum::{Pendulum, Steps};
 use ring::Ring;

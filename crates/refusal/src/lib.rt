@@ -1,4 +1,6 @@
 // Why a call of a rig is refused.
+#![tactic(auto)]
+
 ghost use Rattle.std.specs.Prelude.{◌≡◌};
 ghost use Rattle.refusal.specs.Refusals.{number as number_of_lem, joint as joint_of};
 

@@ -1,4 +1,6 @@
 // The rings of the whole numbers modulo M.
+#![tactic(auto)]
+
 mod residue;
 
 pub use residue::Residue;

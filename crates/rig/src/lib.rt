@@ -1,4 +1,6 @@
 // A tree of one-axis joints over slots that the caller lends.
+#![tactic(auto)]
+
 mod rig;
 mod slot;
 mod table;

@@ -9,12 +9,12 @@ module _ {N : Type 0} (k : CommRing N) where
   open k use {add, neg, add_assoc, add_comm}
 
   pub copies_add : (m n : ℕ) (x : N) → copies k (m + n) x ≡ add (copies k m x) (copies k n x)
-  copies_add m zero x = ap (λ i. copies k i x) (add-zero m) ∙ sym (k.add-zero (copies k m x))
+  copies_add m zero x = ap (λ i. copies k i x) (add-zero m) ∙ sym (k.add_zero (copies k m x))
   copies_add m (suc n) x =
       ap (λ i. copies k i x) (add-suc m n) ∙ ap (λ y. add y x) (copies_add m n x) ∙ add_assoc (copies k m x) (copies k n x) x
 
   pub copies_twice : (n : ℕ) (x : N) → copies k n (add x x) ≡ add (copies k n x) (copies k n x)
-  copies_twice zero x = sym (k.add-zero k.zero)
+  copies_twice zero x = sym (k.add_zero k.zero)
   copies_twice (suc n) x =
       ap (λ y. add y (add x x)) (copies_twice n x) ∙ medial k (copies k n x) (copies k n x) x x
 
@@ -24,7 +24,7 @@ module _ {N : Type 0} (k : CommRing N) where
 
   pub copies_zero : (n : ℕ) → copies k n k.zero ≡ k.zero
   copies_zero zero = refl
-  copies_zero (suc n) = k.add-zero (copies k n k.zero) ∙ copies_zero n
+  copies_zero (suc n) = k.add_zero (copies k n k.zero) ∙ copies_zero n
 
   halves : (n : ℕ) (x : N) → copies k (n + n) x ≡ copies k n (add x x)
   halves n x = copies_add n n x ∙ sym (copies_twice n x)

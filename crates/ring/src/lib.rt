@@ -1,4 +1,6 @@
 // Kinds of number: commutative rings whose units are told by their inverses.
+#![tactic(auto)]
+
 mod ring;
 
 pub use ring::{Ring, whole};

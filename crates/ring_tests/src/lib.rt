@@ -1,4 +1,6 @@
 // A kind of number written from the laws alone, and tests of the kinds of number at hand.
+#![tactic(auto)]
+
 mod fifteen;
 mod slope;
 

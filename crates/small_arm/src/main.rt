@@ -1,4 +1,6 @@
 // Builds an arm of three joints through the calls of a rig, and prints every call with its answer or refusal.
+#![tactic(auto)]
+
 use arm::{add_first, add_plain, add_second, add_third, triple};
 use numbers::{List, Number};
 use refusal::Refusal;

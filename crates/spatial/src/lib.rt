@@ -1,4 +1,6 @@
 // Placements and links of rigid bodies, over any ring.
+#![tactic(auto)]
+
 mod link;
 mod placement;
 

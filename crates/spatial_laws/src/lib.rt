@@ -1,4 +1,6 @@
 // The laws of motions, forces, placements, inertias and joints.
+#![tactic(auto)]
+
 ghost use Rattle.ring.specs.RingMap.{RingMap};
 ghost use Rattle.spatial_laws.specs.SpatialLaws.{SpatialLaws};
 ghost use Rattle.spatial_laws.specs.SpatialMaps.{SpatialMap};

@@ -1,4 +1,6 @@
 // Turns about the third axis and slides along it, without the products by the zeros and ones of their placements.
+#![tactic(auto)]
+
 mod slide;
 mod turn;
 

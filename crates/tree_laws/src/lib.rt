@@ -1,4 +1,6 @@
 // The laws of recursions over a tree of linear maps, for any ring R and any paired modules of motions M and forces F.
+#![tactic(auto)]
+
 ghost use Rattle.tree_laws.specs.Theorems.{AbaIsRight, MassIsRight, MassIsSymmetric, RefusalIsRight, AllNatural};
 
 // Accelerations that are found have the forces as torques, and no others do.

@@ -1,4 +1,6 @@
 // Triples over any ring.
+#![tactic(auto)]
+
 mod triple;
 
 pub use triple::Triple;
