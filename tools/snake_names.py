@@ -29,6 +29,7 @@ BINDER = re.compile(r"[({]((?:[^\s(){}.;,]+\s+)*[^\s(){}.;,]+)\s+:\s")
 ALIAS = re.compile(rf"\bas ({NAME})")
 LET = re.compile(rf"\blet ({NAME})\s")
 IMPORT = re.compile(r"\buse (\S+?)\.\{([^}]*)\}")
+FIELD = re.compile(r"\s*=")
 # What stands behind one of these is a name that the check makes.
 MADE = ("c", "g", "l", "d", "w", "goal")
 GHOST = re.compile(r"\bghost use [^;]*;|\b(?:requires|ensures)\b[^{]*(?=\{)|\bghost \w+\s*[:=]\s*(?=\{)|#\[tactic\([^\]]*\]")
@@ -79,14 +80,14 @@ def snake(name):
 def turned(text, table, theirs, made):
     """The text with each name of the table respelled, but for what stands right behind one of `made`.
 
-    A name of `theirs` is the library's where it stands alone, and a field of the repository's behind a dot.
+    A name of `theirs` is the library's where it stands alone, and a field of the repository's behind a dot or before `=`.
     """
     out, at, head, before = [], 0, None, None
     for m in TOKEN.finditer(text):
         between = text[at : m.start()]
         behind = before is not None and between == "."
         name = m[0]
-        keep = before in made and head == before if behind else name in theirs
+        keep = before in made and head == before if behind else name in theirs and not FIELD.match(text, m.end())
         head = head if behind else name
         out += [between, name if keep else table.get(name, name)]
         at, before = m.end(), name

@@ -8,7 +8,7 @@ use Rattle.figures.proofs.plain_torque.Goals as goal
 
 pub returns : goal.returns
 returns c =
-    let is = c.torque.ensures.is ∙ ap (newton_euler (residues 2147483647)) c.plain-arm.ensures in
+    let is = c.torque.ensures.is ∙ ap (newton_euler (residues 2147483647)) c.plain_arm.ensures in
     record {
       is = is;
       figure =

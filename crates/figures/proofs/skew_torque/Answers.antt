@@ -8,7 +8,7 @@ use Rattle.figures.proofs.skew_torque.Goals as goal
 
 pub returns : goal.returns
 returns c =
-    let is = c.torque.ensures.is ∙ ap (newton_euler (residues 2147483647)) c.skew-arm.ensures in
+    let is = c.torque.ensures.is ∙ ap (newton_euler (residues 2147483647)) c.skew_arm.ensures in
     record {
       is = is;
       figure =

@@ -9,7 +9,7 @@ use Rattle.figures.proofs.sloped_torque.Goals as goal
 
 pub returns : goal.returns
 returns c =
-    let is = c.torque.ensures.is ∙ ap (newton_euler (duals (residues 2147483647))) c.sloped-arm.ensures in
+    let is = c.torque.ensures.is ∙ ap (newton_euler (duals (residues 2147483647))) c.sloped_arm.ensures in
     record {
       is = is;
       figure =

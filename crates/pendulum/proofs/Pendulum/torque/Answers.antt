@@ -5,16 +5,16 @@ use Rattle.pendulum.specs.declared.Steps.{Steps}
 use Rattle.pendulum.proofs.Torque.{torque_equation}
 use Rattle.pendulum.proofs.Pendulum.torque.Goals as goal
 
-pub returns-in-err-x : goal.returns-in-err-x
-returns-in-err-x g c =
+pub returns-in_err-x : goal.returns-in_err-x
+returns-in_err-x g c =
     let k = g.R.Ring.ring in
     let v = g.R.Ring.value in
     let p = pendulum v c.args.self in
     let is : option_map (steps v) c.from-residual.result ≡ newton_euler k p =
-    ap (option_map (steps v)) c.from-residual.ensures ∙ ap (option_map (newton_euler_at k p)) c.in-err-x.ensures in
+    ap (option_map (steps v)) c.from-residual.ensures ∙ ap (option_map (newton_euler_at k p)) c.in_err-x.ensures in
     record {
       is = is;
-      equation = ap (option_map (λ s. v s.torque)) c.from-residual.ensures ∙ ap (option_map (λ s. s.torque)) (ap (option_map (newton_euler_at k p)) c.in-err-x.ensures) ∙ torque_equation k p;
+      equation = ap (option_map (λ s. v s.torque)) c.from-residual.ensures ∙ ap (option_map (λ s. s.torque)) (ap (option_map (newton_euler_at k p)) c.in_err-x.ensures) ∙ torque_equation k p;
     }
 
 pub returns : goal.returns
@@ -22,5 +22,5 @@ returns g c =
     let k = g.R.Ring.ring in
     let v = g.R.Ring.value in
     let p = pendulum v c.args.self in
-    let is = ap Some c.steps-at.ensures ∙ ap (option_map (newton_euler_at k p)) c.in-ok-x.ensures in
+    let is = ap Some c.steps_at.ensures ∙ ap (option_map (newton_euler_at k p)) c.in_ok-x.ensures in
     record { is = is; equation = ap (option_map (λ s. s.torque)) is ∙ torque_equation k p }

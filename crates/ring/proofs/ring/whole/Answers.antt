@@ -9,4 +9,4 @@ returns-then-k-lt0 g c =
     let k = g.R.Ring.ring in
     let same = to_z-of_z w64 c.args.k c.ranges.k in
     let low : lt_z c.args.k (pos 0) ≡ true = rw same at c.if-k-lt0.true in
-    c.neg.ensures ∙ ap k.neg c.natural-size.ensures ∙ negative_whole k c.args.k c.unsigned-abs.result low (c.unsigned-abs.ensures.value ∙ ap nat_abs same)
+    c.neg.ensures ∙ ap k.neg c.natural-size.ensures ∙ negative_whole k c.args.k c.unsigned_abs.result low (c.unsigned_abs.ensures.value ∙ ap nat_abs same)

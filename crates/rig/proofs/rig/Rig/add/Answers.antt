@@ -26,8 +26,8 @@ returns-then-self-ge24 g c =
       lent = refl;
     }
 
-pub returns-in-default : goal.returns-in-default
-returns-in-default g c =
+pub returns-in_default : goal.returns-in_default
+returns-in_default g c =
     let s = c.args.self.now in
     let k = g.R.Ring.ring in
     let q = quaternion g.R.Ring.value c.args.turn in
@@ -36,14 +36,14 @@ returns-in-default g c =
     record {
       answer =
           no_parent k s.n slots c.args.parent c.args.letter q room
-          (ap (is_parent s.n) (sym (to_z-of_z w64 c.args.parent c.ranges.parent)) ∙ c.in-default.ensures);
+          (ap (is_parent s.n) (sym (to_z-of_z w64 c.args.parent c.ranges.parent)) ∙ c.in_default.ensures);
       after = refl;
       keeps = λ h. h;
       lent = refl;
     }
 
-pub returns-in-default-kind-of : goal.returns-in-default-kind-of
-returns-in-default-kind-of g c =
+pub returns-in_default-kind_of : goal.returns-in_default-kind_of
+returns-in_default-kind_of g c =
     let s = c.args.self.now in
     let k = g.R.Ring.ring in
     let q = quaternion g.R.Ring.value c.args.turn in
@@ -53,14 +53,14 @@ returns-in-default-kind-of g c =
     let e : c.args.parent ≡ pos c.in-Some.parent = sym (to_z-of_z w64 c.args.parent c.ranges.parent) ∙ h.0 in
     let parent : is_parent s.n c.args.parent ≡ true = parent_yes s.n c.in-Some.parent c.args.parent e h.1 in
     record {
-      answer = no_kind k s.n slots c.args.parent c.args.letter q room parent (ap is_some (sym c.in-default-kind-of.ensures));
+      answer = no_kind k s.n slots c.args.parent c.args.letter q room parent (ap is_some (sym c.in_default-kind_of.ensures));
       after = refl;
       keeps = λ h. h;
       lent = refl;
     }
 
-pub returns-in-default-rotation : goal.returns-in-default-rotation
-returns-in-default-rotation g c =
+pub returns-in_default-rotation : goal.returns-in_default-rotation
+returns-in_default-rotation g c =
     let s = c.args.self.now in
     let k = g.R.Ring.ring in
     let q = quaternion g.R.Ring.value c.args.turn in
@@ -71,24 +71,24 @@ returns-in-default-rotation g c =
     let parent : is_parent s.n c.args.parent ≡ true = parent_yes s.n c.in-Some.parent c.args.parent e h.1 in
     record {
       answer =
-          no_rotation k s.n slots c.args.parent c.args.letter q room parent (ap is_some (sym c.in-Some-kind-of.ensures))
-          (sym (is_some_mapped (rows k q) (k.inverse (norm k q))) ∙ ap is_some (sym c.in-default-rotation.ensures));
+          no_rotation k s.n slots c.args.parent c.args.letter q room parent (ap is_some (sym c.in-Some-kind_of.ensures))
+          (sym (is_some_mapped (rows k q) (k.inverse (norm k q))) ∙ ap is_some (sym c.in_default-rotation.ensures));
       after = refl;
       keeps = λ h. h;
       lent = refl;
     }
 
-pub offset-bounds-self-k : goal.offset-bounds-self-k
-offset-bounds-self-k g c = let l : c.args.self.now.n + 1 < length c.args.self.now.slots.now = c.if-self.false in search rules
+pub offset_bounds-self-k : goal.offset_bounds-self-k
+offset_bounds-self-k g c = let l : c.args.self.now.n + 1 < length c.args.self.now.slots.now = c.if-self.false in search rules
 
-pub invariant-of-self : goal.invariant-of-self
-invariant-of-self g c =
+pub invariant_of-self : goal.invariant_of-self
+invariant_of-self g c =
     let s = c.args.self.now in (
       length-set s.table.rows s.n _ ∙ s.full,
       (
         few_more s.n c.if-self-ge24.false,
         (
-          fit_more s.n s.slots.now c.at-rest.result c.if-self.false,
+          fit_more s.n s.slots.now c.at_rest.result c.if-self.false,
           (low_set s.table s.n _ c.in-Some.ensures.1 s.low, tt),
         ),
       ),
@@ -108,18 +108,18 @@ returns g c =
     let a : Added k v s _ c.args.parent c.args.letter c.args.offset c.args.turn c.args.link =
     record {
       n = refl;
-      kind = c.in-Some-kind-of.kind;
-      kind_is = sym c.in-Some-kind-of.ensures;
+      kind = c.in-Some-kind_of.kind;
+      kind_is = sym c.in-Some-kind_of.ensures;
       parent_number = c.in-Some.parent;
       parent_is = e;
       table = refl;
-      new_slot = c.at-rest.result;
-      fresh = c.at-rest.ensures (sym c.in-Some-rotation.ensures);
+      new_slot = c.at_rest.result;
+      fresh = c.at_rest.ensures (sym c.in-Some-rotation.ensures);
       slots = refl;
     } in
     record {
       answer =
-          adds k s.n slots c.args.parent c.args.letter q room parent (ap is_some (sym c.in-Some-kind-of.ensures))
+          adds k s.n slots c.args.parent c.args.letter q room parent (ap is_some (sym c.in-Some-kind_of.ensures))
           (sym (is_some_mapped (rows k q) (k.inverse (norm k q))) ∙ ap is_some (sym c.in-Some-rotation.ensures));
       after = a;
       keeps =

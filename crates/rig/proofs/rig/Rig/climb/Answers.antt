@@ -19,11 +19,11 @@ pose-joint-requires g c =
     let low = c.loop-f.invariant.1.low in
     (c.loop-f.invariant.0, omega (arith, low, c.requires.low, c.requires.high, c.loop-f.invariant.0))
 
-pub overflow-sub-j : goal.overflow-sub-j
-overflow-sub-j g c = omega (arith, c.loop-f.invariant.0)
+pub overflow_sub-j : goal.overflow_sub-j
+overflow_sub-j g c = omega (arith, c.loop-f.invariant.0)
 
-pub put-both-requires : goal.put-both-requires
-put-both-requires g c =
+pub put_both-requires : goal.put_both-requires
+put_both-requires g c =
     let low = c.loop-f.invariant.1.low in
     record {
       few = c.args.self.now.few;
@@ -52,7 +52,7 @@ returns-then-p-eq0 g c =
     let room : s.n * s.n ≤ length c.loop-f.result = subst (λ m. s.n * s.n ≤ m) (sym same) c.requires.room in
     let entry : v c.component.result ≡ pairing k (S k h c.loop-f.j) (force v c.loop-f.f) =
     c.component.ensures ∙ ap (λ x. pairing k (axis k x.kind) (force v c.loop-f.f)) c.pose-joint.ensures in
-    subst (λ xs. Climbs k v h s.n a c.args.force c.args.res.now xs) (sym c.put-both.ensures)
+    subst (λ xs. Climbs k v h s.n a c.args.force c.args.res.now xs) (sym c.put_both.ensures)
     (climb_ends k v h s.n a c.args.force c.args.res.now j c.loop-f.j at c.loop-f.f c.loop-f.result c.loop-f.invariant.1 la room
     c.component.result entry c.parent-p.result c.parent-p.ensures.is c.if-p-eq0.true)
 
@@ -73,7 +73,7 @@ loop-f-preserved g c =
     c.component.ensures ∙ ap (λ x. pairing k (axis k x.kind) (force v c.loop-f.f)) c.pose-joint.ensures in
     let ne = c.if-p-eq0.false in (
       omega (arith, ne),
-      subst (λ xs. Climbing k v h s.n a c.args.force c.args.res.now (c.parent-p.result - 1) c.inward-f.result xs) (sym c.put-both.ensures)
+      subst (λ xs. Climbing k v h s.n a c.args.force c.args.res.now (c.parent-p.result - 1) c.inward-f.result xs) (sym c.put_both.ensures)
           (climb_on k v h s.n a c.args.force c.args.res.now j c.loop-f.j at c.loop-f.f c.loop-f.result c.loop-f.invariant.1 la room
           c.component.result entry c.parent-p.result c.parent-p.ensures.is ne c.inward-f.result
           (c.inward-f.ensures ∙ ap (λ x. joint_inward k x (force v c.loop-f.f)) c.pose-joint.ensures)),

@@ -17,8 +17,8 @@ loop-k-init g c =
     let s = c.args.self.now in
     composing_all k v (rig_holds k v s) s.n (holds_n k v s) c.args.work.now c.args.res.now c.requires.own c.requires.clear
 
-pub offset-bounds-work-i : goal.offset-bounds-work-i
-offset-bounds-work-i g c =
+pub offset_bounds-work-i : goal.offset_bounds-work-i
+offset_bounds-work-i g c =
     let l : c.loop-k.k - 1 + 1 < length c.args.work.now = omega (arith, c.requires.long) in
     search rules
 
@@ -37,14 +37,14 @@ climb-requires g c =
           (c.loop-k.invariant.clear (c.loop-k.k - 1) b (omega arith) (omega arith));
     }
 
-pub offset-bounds-work-p : goal.offset-bounds-work-p
-offset-bounds-work-p g c =
+pub offset_bounds-work-p : goal.offset_bounds-work-p
+offset_bounds-work-p g c =
     let low = c.parent-p.ensures.low in
     let l : c.parent-p.result < length c.args.work.now = omega (arith, c.requires.long) in
     search rules
 
-pub offset-bounds-work-p-then-p-gt0 : goal.offset-bounds-work-p-then-p-gt0
-offset-bounds-work-p-then-p-gt0 g c =
+pub offset_bounds-work-p-then-p-gt0 : goal.offset_bounds-work-p-then-p-gt0
+offset_bounds-work-p-then-p-gt0 g c =
     let low = c.parent-p.ensures.low in
     let l : c.parent-p.result < length c.args.work.now = omega (arith, c.requires.long) in
     search rules

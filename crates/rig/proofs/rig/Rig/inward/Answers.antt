@@ -18,27 +18,27 @@ loop-k-init g c =
     let s = c.args.self.now in
     carrying_all k v (rig_holds k v s) s.n (holds_n k v s) c.args.work.now c.args.res.now c.requires.moving
 
-pub offset-bounds-work-i : goal.offset-bounds-work-i
-offset-bounds-work-i g c =
+pub offset_bounds-work-i : goal.offset_bounds-work-i
+offset_bounds-work-i g c =
     let long = c.requires.long in
     let l : c.loop-k.k - 1 + 1 < length c.args.work.now = omega arith in
     search rules
 
-pub offset-bounds-result-k : goal.offset-bounds-result-k
-offset-bounds-result-k g c =
+pub offset_bounds-result-k : goal.offset_bounds-result-k
+offset_bounds-result-k g c =
     let room = c.requires.room in
     let l : c.loop-k.k - 1 < length c.args.res.now = omega arith in
     search rules
 
-pub offset-bounds-work-p : goal.offset-bounds-work-p
-offset-bounds-work-p g c =
+pub offset_bounds-work-p : goal.offset_bounds-work-p
+offset_bounds-work-p g c =
     let long = c.requires.long in
     let low = c.parent-p.ensures.low in
     let l : c.parent-p.result < length c.args.work.now = omega arith in
     search rules
 
-pub offset-bounds-work-p-then-p-gt0 : goal.offset-bounds-work-p-then-p-gt0
-offset-bounds-work-p-then-p-gt0 g c =
+pub offset_bounds-work-p-then-p-gt0 : goal.offset_bounds-work-p-then-p-gt0
+offset_bounds-work-p-then-p-gt0 g c =
     let long = c.requires.long in
     let low = c.parent-p.ensures.low in
     let l : c.parent-p.result < length c.args.work.now = omega arith in

@@ -40,7 +40,7 @@ returns g c =
           c.add-force.ensures
           ∙ ap₂ (force_add k)
           (c.apply.ensures ∙ ap (λ l. momentum k l (motion v c.add-acceleration.result)) link_is)
-          (c.cross-force.ensures
+          (c.cross_force.ensures
           ∙ ap (force_cross k (motion v c.add-velocity.result))
           (c.apply-2.ensures ∙ ap (λ l. momentum k l (motion v c.add-velocity.result)) link_is));
     }

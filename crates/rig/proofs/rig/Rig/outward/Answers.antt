@@ -12,14 +12,14 @@ loop-k-init g c =
     base_moves k v (rig_holds k v c.args.self.now) c.args.work.now c.base.result c.index-work-0.result c.base.ensures
     (omega (arith, c.requires.1))
 
-pub offset-bounds-work-p : goal.offset-bounds-work-p
-offset-bounds-work-p g c =
+pub offset_bounds-work-p : goal.offset_bounds-work-p
+offset_bounds-work-p g c =
     let low = c.parent-p.ensures.low in
     let l : c.parent-p.result < length c.args.work.now = omega (arith, c.requires.1) in
     search rules
 
-pub offset-bounds-work-i : goal.offset-bounds-work-i
-offset-bounds-work-i g c =
+pub offset_bounds-work-i : goal.offset_bounds-work-i
+offset_bounds-work-i g c =
     let l : c.loop-k.k + 1 < length c.args.work.now = omega (arith, c.requires.1) in
     search rules
 

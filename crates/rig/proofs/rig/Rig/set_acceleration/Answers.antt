@@ -7,19 +7,19 @@ use Rattle.rig.proofs.Asked.{refuses, passes, joint_yes, settled}
 use Rattle.rig.proofs.Given.{changed_true}
 use Rattle.rig.proofs.rig.Rig.set_acceleration.Goals as goal
 
-pub returns-in-default : goal.returns-in-default
-returns-in-default g c =
+pub returns-in_default : goal.returns-in_default
+returns-in_default g c =
     record {
       answer =
           refuses tt _ NoJoint []
-          (ap (is_joint c.args.self.now.n) (sym (to_z-of_z w64 c.args.joint c.ranges.joint)) ∙ c.in-default.ensures);
+          (ap (is_joint c.args.self.now.n) (sym (to_z-of_z w64 c.args.joint c.ranges.joint)) ∙ c.in_default.ensures);
       after = refl;
       keeps = λ h. h;
       lent = refl;
     }
 
-pub offset-bounds-self-i : goal.offset-bounds-self-i
-offset-bounds-self-i g c =
+pub offset_bounds-self-i : goal.offset_bounds-self-i
+offset_bounds-self-i g c =
     let h = c.in-Some.ensures in
     let fit = c.args.self.now.fit in
     let l : c.in-Some.i < length c.args.self.now.slots.now = omega arith in

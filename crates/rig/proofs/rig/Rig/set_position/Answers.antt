@@ -10,48 +10,48 @@ use Rattle.rig.proofs.Asked.{no_joint, no_position, positions, settled, fit_kept
 use Rattle.rig.proofs.Given.{positioned_true, kept_own}
 use Rattle.rig.proofs.rig.Rig.set_position.Goals as goal
 
-pub returns-in-default : goal.returns-in-default
-returns-in-default g c =
+pub returns-in_default : goal.returns-in_default
+returns-in_default g c =
     let s = c.args.self.now in
     record {
       answer =
           no_joint g.R.Ring.ring s.n s.table c.args.joint (g.R.Ring.value c.args.position)
-          (ap (is_joint s.n) (sym (to_z-of_z w64 c.args.joint c.ranges.joint)) ∙ c.in-default.ensures);
+          (ap (is_joint s.n) (sym (to_z-of_z w64 c.args.joint c.ranges.joint)) ∙ c.in_default.ensures);
       after = refl;
       keeps = λ h. h;
       lent = refl;
     }
 
-pub returns-in-default-placement : goal.returns-in-default-placement
-returns-in-default-placement g c =
+pub returns-in_default-placement : goal.returns-in_default-placement
+returns-in_default-placement g c =
     let s = c.args.self.now in
     let h = c.in-Some.ensures in
     let e : c.args.joint ≡ pos c.in-Some.i = sym (to_z-of_z w64 c.args.joint c.ranges.joint) ∙ h.0 in
     record {
       answer =
           no_position g.R.Ring.ring s.n s.table c.args.joint (g.R.Ring.value c.args.position)
-          c.in-Some.i e h.1 h.2 c.in-default-placement.ensures;
+          c.in-Some.i e h.1 h.2 c.in_default-placement.ensures;
       after = refl;
       keeps = λ h. h;
       lent = refl;
     }
 
-pub offset-bounds-self-i-2 : goal.offset-bounds-self-i-2
-offset-bounds-self-i-2 g c =
+pub offset_bounds-self-i-2 : goal.offset_bounds-self-i-2
+offset_bounds-self-i-2 g c =
     let h = c.in-Some.ensures in
     let fit = c.args.self.now.fit in
     let l : c.in-Some.i < length c.args.self.now.slots.now = omega arith in
     search rules
 
-pub offset-bounds-self-i-3 : goal.offset-bounds-self-i-3
-offset-bounds-self-i-3 g c =
+pub offset_bounds-self-i-3 : goal.offset_bounds-self-i-3
+offset_bounds-self-i-3 g c =
     let h = c.in-Some.ensures in
     let fit = c.args.self.now.fit in
     let l : c.in-Some.i < length c.args.self.now.slots.now = omega arith in
     search rules
 
-pub invariant-of-self : goal.invariant-of-self
-invariant-of-self g c = let s = c.args.self.now in (s.full, (s.few, (fit_kept s.n c.in-Some.i s.slots.now _ s.fit, (s.low, tt))))
+pub invariant_of-self : goal.invariant_of-self
+invariant_of-self g c = let s = c.args.self.now in (s.full, (s.few, (fit_kept s.n c.in-Some.i s.slots.now _ s.fit, (s.low, tt))))
 
 pub returns : goal.returns
 returns g c =

@@ -4,8 +4,8 @@ use Rattle.ring_tests.specs.Fifteen.{number_eq}
 use Rattle.ring_tests.proofs.fifteen.FifteenRing.mul.Goals as goal
 
 -- the product of two numbers below 15 is below 256
-pub overflow-mul-result : goal.overflow-mul-result
-overflow-mul-result c =
+pub overflow_mul-result : goal.overflow_mul-result
+overflow_mul-result c =
     let h : c.args.self.digit % 15 ≤ 14 = omega arith in
     let k : c.args.other.digit % 15 ≤ 14 = omega arith in
     omega (arith, mul-le-mul h k)

@@ -22,13 +22,13 @@ turns :
 unfolding turn_norm
 turns k t er ei es eo eq = er ∙ ap (option_map (turned k t)) (ei ∙ ap k.inverse (es ∙ λ j. k.add (eo j) (eq j)))
 
-pub returns-in-err-i : goal.returns-in-err-i
-returns-in-err-i g c =
+pub returns-in_err-i : goal.returns-in_err-i
+returns-in_err-i g c =
     turns
     g.R.Ring.ring
     (g.R.Ring.value c.args.t)
     (ap (option_map (placement g.R.Ring.value)) c.from-residual.ensures)
-    c.in-err-i.ensures
+    c.in_err-i.ensures
     c.add.ensures
     c.one.ensures
     c.mul.ensures
@@ -39,7 +39,7 @@ returns g c =
     g.R.Ring.ring
     (g.R.Ring.value c.args.t)
     (ap Some c.turned.ensures)
-    c.in-ok-i.ensures
+    c.in_ok-i.ensures
     c.add.ensures
     c.one.ensures
     c.mul.ensures
