@@ -1,7 +1,6 @@
 // What is checked of numbers of any kind.
 use ring::Ring;
 use std::process::Abort;
-use std::test::Fail;
 
 // `x` has these parts, in this order, and no more.
 pub(crate) fn parts_are<R: Ring>(rt: &impl Abort, x: R, parts: &[u32]) {
@@ -14,16 +13,12 @@ pub(crate) fn parts_are<R: Ring>(rt: &impl Abort, x: R, parts: &[u32]) {
 }
 
 // `x` is a unit just where `expected` says so, and times its inverse it is one.
-pub(crate) fn unit_is<R: Ring>(rt: &impl Abort, x: R, expected: bool) -> Result<(), Fail> {
+pub(crate) fn unit_is<R: Ring>(rt: &impl Abort, x: R, expected: bool) {
     match x.inverse() {
         Some(inverse) => {
             assert!(rt; expected);
             assert!(rt; x.mul(inverse).equals(R::one()));
-            Ok(())
         }
-        None => {
-            assert!(rt; !expected);
-            Ok(())
-        },
+        None => assert!(rt; !expected),
     }
 }

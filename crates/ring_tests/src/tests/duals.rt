@@ -46,9 +46,9 @@ fn units_have_inverses(rt: HostRuntime) -> Result<(), Fail> {
 
 // e times itself is zero, so e has no inverse; nor has what stands for zero plus a multiple of e.
 #[test]
-fn multiples_of_e_have_no_inverse(rt: HostRuntime) -> Result<(), Fail> {
+fn multiples_of_e_have_no_inverse(rt: HostRuntime) {
     parts_are(&rt, dual(0, 1).mul(dual(0, 1)), &[0, 0]);
-    unit_is(&rt, dual(0, 1), false)?;
-    unit_is(&rt, dual(2147483647, 2147483648), false)?;
-    unit_is(&rt, dual(4294967294, 5), false)
+    unit_is(&rt, dual(0, 1), false);
+    unit_is(&rt, dual(2147483647, 2147483648), false);
+    unit_is(&rt, dual(4294967294, 5), false);
 }

@@ -4,7 +4,6 @@ use crate::slope::cube_slope;
 use crate::tests::common::{parts_are, unit_is};
 use dual::Dual;
 use ring::{Ring, whole};
-use std::test::Fail;
 
 // Each number modulo 15 is there three times among the digits below 45.
 #[test]
@@ -43,7 +42,7 @@ const INVERSES: [Option<u8>; 15] = [
 ];
 
 #[test]
-fn units_are_coprime_to_15(rt: HostRuntime) -> Result<(), Fail> {
+fn units_are_coprime_to_15(rt: HostRuntime) {
     for digit in 0..15u8 {
         let x = Fifteen { digit };
         let inverse = match x.inverse() {
@@ -51,23 +50,21 @@ fn units_are_coprime_to_15(rt: HostRuntime) -> Result<(), Fail> {
             None => None,
         };
         assert_eq!(rt; inverse, INVERSES[digit as usize]);
-        unit_is(&rt, x, digit % 3 != 0 && digit % 5 != 0)?;
+        unit_is(&rt, x, digit % 3 != 0 && digit % 5 != 0);
     }
-    Ok(())
 }
 
 #[test]
-fn dual_units_have_first_parts_coprime_to_15(rt: HostRuntime) -> Result<(), Fail> {
+fn dual_units_have_first_parts_coprime_to_15(rt: HostRuntime) {
     for a in 0..15u8 {
         for b in 0..15u8 {
             let x = Dual {
                 first: Fifteen { digit: a },
                 second: Fifteen { digit: b },
             };
-            unit_is(&rt, x, a % 3 != 0 && a % 5 != 0)?;
+            unit_is(&rt, x, a % 3 != 0 && a % 5 != 0);
         }
     }
-    Ok(())
 }
 
 // The slope of the cube of x is 3 x x, and the slope of that is 6 x.

@@ -3,7 +3,6 @@ use crate::tests::common::parts_are;
 use residue::{Residue, RingA, RingB};
 use ring::Ring;
 use std::process::Abort;
-use std::test::Fail;
 use word::{RingW, Word};
 
 // A number that one word holds: the checks look at the word, since equal numbers may differ in it.
@@ -39,38 +38,35 @@ type Single = (u32, u32, u32, Option<u32>);
 // Two words, and the words of their sum, difference and product.
 type Pair = (u32, u32, u32, u32, u32);
 
-fn single_holds<R: Stored>(rt: &impl Abort, row: Single) -> Result<(), Fail> {
+fn single_holds<R: Stored>(rt: &impl Abort, row: Single) {
     let (word, part, negative, inverse) = row;
     let x = R::of(word);
     parts_are(rt, x, &[part]);
-    assert_eq!(rt; x.neg().word(), negative);
+    assert_eq!(rt; x.neg().word(), negative, "of {word}");
     let found = match x.inverse() {
         Some(i) => Some(i.word()),
         None => None,
     };
-    assert_eq!(rt; found, inverse);
-    Ok(())
+    assert_eq!(rt; found, inverse, "of {word}");
 }
 
-fn pair_holds<R: Stored>(rt: &impl Abort, row: Pair) -> Result<(), Fail> {
+fn pair_holds<R: Stored>(rt: &impl Abort, row: Pair) {
     let (a, b, sum, difference, product) = row;
     let x = R::of(a);
     let y = R::of(b);
-    assert_eq!(rt; x.add(y).word(), sum);
-    assert_eq!(rt; x.sub(y).word(), difference);
-    assert_eq!(rt; x.mul(y).word(), product);
-    assert_eq!(rt; x.equals(y), difference == 0);
-    Ok(())
+    assert_eq!(rt; x.add(y).word(), sum, "of {a} and {b}");
+    assert_eq!(rt; x.sub(y).word(), difference, "of {a} and {b}");
+    assert_eq!(rt; x.mul(y).word(), product, "of {a} and {b}");
+    assert_eq!(rt; x.equals(y), difference == 0, "of {a} and {b}");
 }
 
-fn hold<R: Stored>(rt: &impl Abort, singles: &[Single], pairs: &[Pair]) -> Result<(), Fail> {
+fn hold<R: Stored>(rt: &impl Abort, singles: &[Single], pairs: &[Pair]) {
     for row in singles {
-        single_holds::<R>(rt, *row).note(format_args!("of {}", row.0))?;
+        single_holds::<R>(rt, *row);
     }
     for row in pairs {
-        pair_holds::<R>(rt, *row).note(format_args!("of {} and {}", row.0, row.1))?;
+        pair_holds::<R>(rt, *row);
     }
-    Ok(())
 }
 
 const SINGLES_A: [Single; 8] = [
@@ -140,16 +136,16 @@ const PAIRS_W: [Pair; 7] = [
 ];
 
 #[test]
-fn modulo_2147483647(rt: HostRuntime) -> Result<(), Fail> {
-    hold::<RingA>(&rt, &SINGLES_A, &PAIRS_A)
+fn modulo_2147483647(rt: HostRuntime) {
+    hold::<RingA>(&rt, &SINGLES_A, &PAIRS_A);
 }
 
 #[test]
-fn modulo_65521(rt: HostRuntime) -> Result<(), Fail> {
-    hold::<RingB>(&rt, &SINGLES_B, &PAIRS_B)
+fn modulo_65521(rt: HostRuntime) {
+    hold::<RingB>(&rt, &SINGLES_B, &PAIRS_B);
 }
 
 #[test]
-fn modulo_2_to_32(rt: HostRuntime) -> Result<(), Fail> {
-    hold::<RingW>(&rt, &SINGLES_W, &PAIRS_W)
+fn modulo_2_to_32(rt: HostRuntime) {
+    hold::<RingW>(&rt, &SINGLES_W, &PAIRS_W);
 }

@@ -10,11 +10,11 @@ returns-in_err-x g c =
     let k = g.R.Ring.ring in
     let v = g.R.Ring.value in
     let p = pendulum v c.args.self in
-    let is : option_map (steps v) c.from-residual.result ≡ newton_euler k p =
-    ap (option_map (steps v)) c.from-residual.ensures ∙ ap (option_map (newton_euler_at k p)) c.in_err-x.ensures in
+    let is : option_map (steps v) c.from_residual.result ≡ newton_euler k p =
+    ap (option_map (steps v)) c.from_residual.ensures ∙ ap (option_map (newton_euler_at k p)) c.in_err-x.ensures in
     record {
       is = is;
-      equation = ap (option_map (λ s. v s.torque)) c.from-residual.ensures ∙ ap (option_map (λ s. s.torque)) (ap (option_map (newton_euler_at k p)) c.in_err-x.ensures) ∙ torque_equation k p;
+      equation = ap (option_map (λ s. v s.torque)) c.from_residual.ensures ∙ ap (option_map (λ s. s.torque)) (ap (option_map (newton_euler_at k p)) c.in_err-x.ensures) ∙ torque_equation k p;
     }
 
 pub returns : goal.returns

@@ -27,7 +27,7 @@ returns-in_err-i g c =
     turns
     g.R.Ring.ring
     (g.R.Ring.value c.args.t)
-    (ap (option_map (placement g.R.Ring.value)) c.from-residual.ensures)
+    (ap (option_map (placement g.R.Ring.value)) c.from_residual.ensures)
     c.in_err-i.ensures
     c.add.ensures
     c.one.ensures
