@@ -1,5 +1,5 @@
 -- Equations that hold in every commutative ring, by computing.
-use Rattle.std.proofs.Common.{◌≡◌, ℕ, Bool, true, false, cond, not, eqb, ltb, leb, List, [], ◌∷◌, ◌++◌, get_or, sym, refl, ap, ◌∙◌, eqb-true}
+use Rattle.std.proofs.Common.{◌≡◌, ℕ, Bool, true, false, cond, not, eqb, ltb, leb, List, [], ◌∷◌, get_or, sym, refl, ap, ◌∙◌, eqb-true}
 use Rattle.ring.specs.CommRing.{CommRing}
 use Rattle.ring.specs.Laws.{zero_add, one_mul, mul_zero, zero_mul, distrib_right, neg_only, mul_neg, neg_mul, neg_zero, neg_neg, neg_add, add_swap, mul_swap}
 

@@ -1,6 +1,6 @@
 -- What follows from the laws of a commutative ring.
-use Rattle.std.specs.Prelude.{◌≡◌, ℕ, zero, suc, ◌+◌, Some, None, Option, MatchOption, ◌≢◌, refl}
-use Rattle.std.proofs.Common.{sym, ap, ◌∙◌, arith}
+use Rattle.std.specs.Prelude.{◌≡◌, Some, None, Option, MatchOption, ◌≢◌, refl}
+use Rattle.std.proofs.Common.{sym, ap, ◌∙◌}
 use Rattle.std.specs.Option.{option_map}
 use Rattle.ring.specs.CommRing.{CommRing, difference}
 use Rattle.ring.specs.RingMap.{RingMap}

@@ -83,16 +83,13 @@ offset_bounds-self-k g c = let l : c.args.self.now.n + 1 < length c.args.self.no
 
 pub invariant_of-self : goal.invariant_of-self
 invariant_of-self g c =
-    let s = c.args.self.now in (
-      length-set s.table.rows s.n _ ∙ s.full,
-      (
-        few_more s.n c.if-self-ge24.false,
-        (
-          fit_more s.n s.slots.now c.at_rest.result c.if-self.false,
-          (low_set s.table s.n _ c.in-Some.ensures.1 s.low, tt),
-        ),
-      ),
-    )
+    let s = c.args.self.now in
+    record {
+      full = length-set s.table.rows s.n _ ∙ s.full;
+      few = few_more s.n c.if-self-ge24.false;
+      fit = fit_more s.n s.slots.now c.at_rest.result c.if-self.false;
+      low = low_set s.table s.n _ c.in-Some.ensures.1 s.low;
+    }
 
 pub returns : goal.returns
 returns g c =

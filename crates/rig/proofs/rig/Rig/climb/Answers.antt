@@ -29,7 +29,7 @@ put_both-requires g c =
       few = c.args.self.now.few;
       row = omega (arith, c.requires.low, c.requires.high);
       column = omega (arith, low, c.requires.low, c.requires.high, c.loop-f.invariant.0);
-      room = let same = c.loop-f.auto.result in subst (λ m. c.args.self.now.n * c.args.self.now.n ≤ m) (sym same) c.requires.room;
+      room = let same = c.loop-f.auto.res in subst (λ m. c.args.self.now.n * c.args.self.now.n ≤ m) (sym same) c.requires.room;
     }
 
 pub parent-p-requires : goal.parent-p-requires
@@ -48,12 +48,12 @@ returns-then-p-eq0 g c =
     let pos = c.loop-f.invariant.0 in
     let at : c.loop-f.j ≡ suc (c.loop-f.j - 1) = omega (arith, pos) in
     let la : c.args.i - 1 < s.n = omega (arith, c.requires.low, c.requires.high) in
-    let same = c.loop-f.auto.result in
-    let room : s.n * s.n ≤ length c.loop-f.result = subst (λ m. s.n * s.n ≤ m) (sym same) c.requires.room in
+    let same = c.loop-f.auto.res in
+    let room : s.n * s.n ≤ length c.loop-f.res = subst (λ m. s.n * s.n ≤ m) (sym same) c.requires.room in
     let entry : v c.component.result ≡ pairing k (S k h c.loop-f.j) (force v c.loop-f.f) =
     c.component.ensures ∙ ap (λ x. pairing k (axis k x.kind) (force v c.loop-f.f)) c.pose-joint.ensures in
     subst (λ xs. Climbs k v h s.n a c.args.force c.args.res.now xs) (sym c.put_both.ensures)
-    (climb_ends k v h s.n a c.args.force c.args.res.now j c.loop-f.j at c.loop-f.f c.loop-f.result c.loop-f.invariant.1 la room
+    (climb_ends k v h s.n a c.args.force c.args.res.now j c.loop-f.j at c.loop-f.f c.loop-f.res c.loop-f.invariant.1 la room
     c.component.result entry c.parent-p.result c.parent-p.ensures.is c.if-p-eq0.true)
 
 pub loop-f-preserved : goal.loop-f-preserved
@@ -67,14 +67,14 @@ loop-f-preserved g c =
     let pos = c.loop-f.invariant.0 in
     let at : c.loop-f.j ≡ suc (c.loop-f.j - 1) = omega (arith, pos) in
     let la : c.args.i - 1 < s.n = omega (arith, c.requires.low, c.requires.high) in
-    let same = c.loop-f.auto.result in
-    let room : s.n * s.n ≤ length c.loop-f.result = subst (λ m. s.n * s.n ≤ m) (sym same) c.requires.room in
+    let same = c.loop-f.auto.res in
+    let room : s.n * s.n ≤ length c.loop-f.res = subst (λ m. s.n * s.n ≤ m) (sym same) c.requires.room in
     let entry : v c.component.result ≡ pairing k (S k h c.loop-f.j) (force v c.loop-f.f) =
     c.component.ensures ∙ ap (λ x. pairing k (axis k x.kind) (force v c.loop-f.f)) c.pose-joint.ensures in
     let ne = c.if-p-eq0.false in (
       omega (arith, ne),
       subst (λ xs. Climbing k v h s.n a c.args.force c.args.res.now (c.parent-p.result - 1) c.inward-f.result xs) (sym c.put_both.ensures)
-          (climb_on k v h s.n a c.args.force c.args.res.now j c.loop-f.j at c.loop-f.f c.loop-f.result c.loop-f.invariant.1 la room
+          (climb_on k v h s.n a c.args.force c.args.res.now j c.loop-f.j at c.loop-f.f c.loop-f.res c.loop-f.invariant.1 la room
           c.component.result entry c.parent-p.result c.parent-p.ensures.is ne c.inward-f.result
           (c.inward-f.ensures ∙ ap (λ x. joint_inward k x (force v c.loop-f.f)) c.pose-joint.ensures)),
     )

@@ -26,14 +26,14 @@ pub climb-requires : goal.climb-requires
 climb-requires g c =
     let v = g.R.Ring.value in
     let s = c.args.self.now in
-    let same = c.loop-k.auto.result in
+    let same = c.loop-k.auto.res in
     let back : c.loop-k.k - 1 + 1 - 1 ≡ c.loop-k.k - 1 = omega arith in
     record {
       low = omega arith;
       high = omega (arith, c.loop-k.auto.k);
       room = subst (λ m. s.n * s.n ≤ m) (sym same) c.requires.room;
       clear = λ b l.
-          subst (λ a. Both v s.n c.loop-k.result a b g.R.Ring.ring.zero) (sym back)
+          subst (λ a. Both v s.n c.loop-k.res a b g.R.Ring.ring.zero) (sym back)
           (c.loop-k.invariant.clear (c.loop-k.k - 1) b (omega arith) (omega arith));
     }
 
@@ -60,10 +60,10 @@ loop-k-preserved g c =
     let at_axis : force v c.column.result ≡ ops_of k v h s.n (holds_n k v s) c.index-work-i.result c.loop-k.work (m + 1) (S k h (m + 1)) =
     c.column.ensures ∙ ap (λ j. applied k (inertia v (get_or c.loop-k.work (m + 1) c.index-work-i.result).inertia) (axis k j.kind)) c.pose-joint.ensures in
     let back : m + 1 - 1 ≡ m = omega arith in
-    let climbs : Climbs k v h s.n m c.column.result c.loop-k.result c.climb.new.result =
-    subst (λ a. Climbs k v h s.n a c.column.result c.loop-k.result c.climb.new.result) back c.climb.ensures in
-    composes_on k v h s.n (holds_n k v s) m (m + 1) (add-one m) l c.loop-k.work _ c.args.res.now c.loop-k.result
-    c.climb.new.result c.column.result c.index-work-i.result c.loop-k.k (omega arith) c.loop-k.invariant at_axis climbs
+    let climbs : Climbs k v h s.n m c.column.result c.loop-k.res c.climb.new.res =
+    subst (λ a. Climbs k v h s.n a c.column.result c.loop-k.res c.climb.new.res) back c.climb.ensures in
+    composes_on k v h s.n (holds_n k v s) m (m + 1) (add-one m) l c.loop-k.work _ c.args.res.now c.loop-k.res
+    c.climb.new.res c.column.result c.index-work-i.result c.loop-k.k (omega arith) c.loop-k.invariant at_axis climbs
     (hands_none k v h s.n (holds_n k v s) m (m + 1) (add-one m) l c.loop-k.work c.parent-p.result c.parent-p.ensures.is c.if-p-gt0.false)
 
 pub loop-k-preserved-then-p-gt0 : goal.loop-k-preserved-then-p-gt0
@@ -77,10 +77,10 @@ loop-k-preserved-then-p-gt0 g c =
     let at_axis : force v c.column.result ≡ ops_of k v h s.n (holds_n k v s) c.index-work-i.result c.loop-k.work (m + 1) (S k h (m + 1)) =
     c.column.ensures ∙ ap (λ j. applied k (inertia v (get_or c.loop-k.work (m + 1) c.index-work-i.result).inertia) (axis k j.kind)) c.pose-joint.ensures in
     let back : m + 1 - 1 ≡ m = omega arith in
-    let climbs : Climbs k v h s.n m c.column.result c.loop-k.result c.climb.new.result =
-    subst (λ a. Climbs k v h s.n a c.column.result c.loop-k.result c.climb.new.result) back c.climb.ensures in
-    composes_on k v h s.n (holds_n k v s) m (m + 1) (add-one m) l c.loop-k.work _ c.args.res.now c.loop-k.result
-    c.climb.new.result c.column.result c.index-work-i.result c.loop-k.k (omega arith) c.loop-k.invariant at_axis climbs
+    let climbs : Climbs k v h s.n m c.column.result c.loop-k.res c.climb.new.res =
+    subst (λ a. Climbs k v h s.n a c.column.result c.loop-k.res c.climb.new.res) back c.climb.ensures in
+    composes_on k v h s.n (holds_n k v s) m (m + 1) (add-one m) l c.loop-k.work _ c.args.res.now c.loop-k.res
+    c.climb.new.res c.column.result c.index-work-i.result c.loop-k.k (omega arith) c.loop-k.invariant at_axis climbs
     (hands_on k v h s.n (holds_n k v s) m (m + 1) (add-one m) l c.loop-k.work c.parent-p.result c.parent-p.ensures.is c.add-sum.result
     c.index-work-p-then-p-gt0.result c.index-work-i.result (omega (arith, c.requires.long, c.loop-k.auto.work))
     (c.add-sum.ensures
@@ -93,6 +93,6 @@ returns g c =
     let k = g.R.Ring.ring in
     let v = g.R.Ring.value in
     let s = c.args.self.now in
-    let same = c.loop-k.auto.result in
-    composed_all k v (rig_holds k v s) s.n (holds_n k v s) c.loop-k.work c.args.res.now c.loop-k.result c.loop-k.k
+    let same = c.loop-k.auto.res in
+    composed_all k v (rig_holds k v s) s.n (holds_n k v s) c.loop-k.work c.args.res.now c.loop-k.res c.loop-k.k
     c.loop-k-test.false c.loop-k.invariant (subst (λ m. s.n * s.n ≤ m) (sym same) c.requires.room) same

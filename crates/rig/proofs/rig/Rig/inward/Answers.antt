@@ -24,8 +24,8 @@ offset_bounds-work-i g c =
     let l : c.loop-k.k - 1 + 1 < length c.args.work.now = omega arith in
     search rules
 
-pub offset_bounds-result-k : goal.offset_bounds-result-k
-offset_bounds-result-k g c =
+pub offset_bounds-res-k : goal.offset_bounds-res-k
+offset_bounds-res-k g c =
     let room = c.requires.room in
     let l : c.loop-k.k - 1 < length c.args.res.now = omega arith in
     search rules
@@ -54,8 +54,8 @@ loop-k-preserved g c =
     let l : c.loop-k.k - 1 < s.n = omega (arith, c.loop-k.auto.k) in
     let torque : v c.component.result ≡ pairing k (S k h (m + 1)) (tab k v h s.n (holds_n k v s) c.index-work-i.result c.loop-k.work (m + 1)) =
     c.component.ensures ∙ ap (λ j. pairing k (axis k j.kind) (tab k v h s.n (holds_n k v s) c.index-work-i.result c.loop-k.work (m + 1))) c.pose-joint.ensures in
-    carries_on k v h s.n (holds_n k v s) m (m + 1) (add-one m) l c.loop-k.work _ c.args.res.now c.loop-k.result
-    c.component.result c.index-work-i.result c.loop-k.k (omega arith) (omega (arith, c.requires.room, c.loop-k.auto.result)) c.loop-k.invariant torque
+    carries_on k v h s.n (holds_n k v s) m (m + 1) (add-one m) l c.loop-k.work _ c.args.res.now c.loop-k.res
+    c.component.result c.index-work-i.result c.loop-k.k (omega arith) (omega (arith, c.requires.room, c.loop-k.auto.res)) c.loop-k.invariant torque
     (hands_none k v h s.n (holds_n k v s) m (m + 1) (add-one m) l c.loop-k.work c.parent-p.result c.parent-p.ensures.is c.if-p-gt0.false)
 
 pub loop-k-preserved-then-p-gt0 : goal.loop-k-preserved-then-p-gt0
@@ -68,8 +68,8 @@ loop-k-preserved-then-p-gt0 g c =
     let l : c.loop-k.k - 1 < s.n = omega (arith, c.loop-k.auto.k) in
     let torque : v c.component.result ≡ pairing k (S k h (m + 1)) (tab k v h s.n (holds_n k v s) c.index-work-i.result c.loop-k.work (m + 1)) =
     c.component.ensures ∙ ap (λ j. pairing k (axis k j.kind) (tab k v h s.n (holds_n k v s) c.index-work-i.result c.loop-k.work (m + 1))) c.pose-joint.ensures in
-    carries_on k v h s.n (holds_n k v s) m (m + 1) (add-one m) l c.loop-k.work _ c.args.res.now c.loop-k.result
-    c.component.result c.index-work-i.result c.loop-k.k (omega arith) (omega (arith, c.requires.room, c.loop-k.auto.result)) c.loop-k.invariant torque
+    carries_on k v h s.n (holds_n k v s) m (m + 1) (add-one m) l c.loop-k.work _ c.args.res.now c.loop-k.res
+    c.component.result c.index-work-i.result c.loop-k.k (omega arith) (omega (arith, c.requires.room, c.loop-k.auto.res)) c.loop-k.invariant torque
     (hands_on k v h s.n (holds_n k v s) m (m + 1) (add-one m) l c.loop-k.work c.parent-p.result c.parent-p.ensures.is c.add-sum.result
     c.index-work-p-then-p-gt0.result c.index-work-i.result (omega (arith, c.requires.long, c.loop-k.auto.work))
     (c.add-sum.ensures
@@ -83,6 +83,6 @@ returns g c =
     let v = g.R.Ring.value in
     let s = c.args.self.now in
     let inv = c.loop-k.invariant in
-    let same = c.loop-k.auto.result in
-    shown v s.n (torques k (rig_holds k v s)) c.args.res.now c.loop-k.result (omega (arith, c.requires.room)) same
+    let same = c.loop-k.auto.res in
+    shown v s.n (torques k (rig_holds k v s)) c.args.res.now c.loop-k.res (omega (arith, c.requires.room)) same
     (λ j l d. inv.told j (omega arith) l d) inv.rest

@@ -51,7 +51,9 @@ offset_bounds-self-i-3 g c =
     search rules
 
 pub invariant_of-self : goal.invariant_of-self
-invariant_of-self g c = let s = c.args.self.now in (s.full, (s.few, (fit_kept s.n c.in-Some.i s.slots.now _ s.fit, (s.low, tt))))
+invariant_of-self g c =
+    let s = c.args.self.now in
+    record { full = s.full; few = s.few; fit = fit_kept s.n c.in-Some.i s.slots.now _ s.fit; low = s.low }
 
 pub returns : goal.returns
 returns g c =

@@ -27,6 +27,6 @@ returns g c =
     record {
       answer = shows n (n * n) (length c.args.res.now) (length c.args.work.now) c.if-res-entries.false c.if-work-self.false;
       shown =
-          shown_past g.R.Ring.value (n * n) _ c.args.res.now c.clear.new.list c.composites.new.result
+          shown_past g.R.Ring.value (n * n) _ c.args.res.now c.clear.new.list c.composites.new.res
           c.clear.auto.list c.clear.ensures.past c.composites.ensures;
     }
