@@ -1,5 +1,5 @@
 -- A ring map goes past the recursions.
-use Rattle.std.proofs.Common.{◌≡◌, ℕ, zero, suc, Some, None, Option, sym, refl, ap, ◌∙◌}
+use Rattle.std.proofs.Common.{◌≡◌, ℕ, zero, suc, Some, None, Option, refl, ap, ◌∙◌}
 use mathlib.Core.Path.{fun_ext}
 use Rattle.std.specs.Option.{option_map}
 use Rattle.ring.specs.CommRing.{CommRing}
@@ -8,7 +8,7 @@ use Rattle.motion.specs.Vectors.{motion, force, motion_add, motion_scale, motion
 use Rattle.spatial.specs.Links.{link, momentum}
 use Rattle.motion.specs.declared.vectors.Motion.{Motion}
 use Rattle.motion.specs.declared.vectors.Force.{Force}
-use Rattle.joint.specs.Joints.{joint, axis, joint_outward}
+use Rattle.joint.specs.Joints.{joint, joint_outward}
 use Rattle.spatial_laws.specs.SpatialMaps.{SpatialMap}
 use Rattle.spatial_laws.proofs.Maps.{spatial_map}
 use Rattle.tree_laws.specs.Tree.{Outcome as Ended, refused as ended_at, found as ended_with}

@@ -1,6 +1,5 @@
 -- There is one table of articulated bodies.
 use Rattle.std.proofs.Common.{◌≡◌, ℕ, zero, suc, ◌+◌, ◌<◌, ◌≤◌, Some, None, Option, sym, ap, ◌∙◌, subst, ap₂, arith}
-use native.Mathlib.Decide.{dec_lt}
 use Rattle.ring.specs.CommRing.{CommRing}
 use Rattle.motion.specs.Vectors.{motion_add, motion_scale, force_add, force_scale, pairing}
 use Rattle.motion.specs.declared.vectors.Motion.{Motion}
@@ -10,7 +9,7 @@ use Rattle.tree_laws.specs.Words.{children_above}
 use Rattle.dynamics.specs.Held.{Held, par}
 use Rattle.dynamics.specs.Modules.{motions, forces, power, tree}
 use Rattle.dynamics.specs.Recursions.{S, own_inertia, drift, bias}
-use Rattle.dynamics.specs.Tables.{from_children, from_parent, U, D, u, apart, pushed, ArticulatedBodies, RefusedBody}
+use Rattle.dynamics.specs.Tables.{from_children, U, D, u, apart, pushed, ArticulatedBodies, RefusedBody}
 
 some_same : {V : Type 0} {x y : V} → Some x ≡ Some y → x ≡ y
 some_same {V} {x} {y} e = ap (λ (o : Option V). elim o [ None ↦ x | Some z ↦ z ]) e

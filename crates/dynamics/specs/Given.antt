@@ -1,5 +1,5 @@
 -- A rig by the numbers that are given for it.
-use Rattle.std.specs.Prelude.{ℕ, zero, suc, ◌-◌, List, [], ◌∷◌, length, get_or, Some, None, Option, slice_index_or}
+use Rattle.std.specs.Prelude.{ℕ, ◌-◌, List, [], ◌∷◌, length, get_or, Some, None, Option, slice_index_or}
 use Rattle.ring.specs.CommRing.{CommRing}
 use Rattle.triple.specs.Ops.{ops}
 use Rattle.triple.specs.Triples.{zero3}

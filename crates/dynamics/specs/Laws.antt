@@ -1,5 +1,5 @@
 -- What the recursions promise, in every ring.
-use Rattle.std.specs.Prelude.{◌≡◌, ℕ, zero, suc, ◌<◌, ◌≤◌}
+use Rattle.std.specs.Prelude.{◌≡◌, ℕ, suc, ◌<◌, ◌≤◌}
 use Rattle.ring.specs.CommRing.{CommRing}
 use Rattle.tree_laws.specs.Tree.{sum, Desc, unit_at, inward}
 use Rattle.tree_laws.specs.Words.{composite}

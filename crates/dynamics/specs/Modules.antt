@@ -1,5 +1,4 @@
 -- Motions and forces as modules over the ring, and the joints of a rig as maps between them.
-use Rattle.std.specs.Prelude.{◌≡◌, ℕ, suc, ◌≤◌, min}
 use Rattle.std.proofs.Common.{ap, ◌∙◌, arith}
 use Rattle.ring.specs.CommRing.{CommRing}
 use Rattle.motion.specs.Vectors.{motion_zero, motion_add, motion_scale, force_zero, force_add, force_scale, pairing}

@@ -1,5 +1,5 @@
 -- The three recursions for what a rig holds.
-use Rattle.std.specs.Prelude.{◌≡◌, ℕ, zero, suc}
+use Rattle.std.specs.Prelude.{ℕ, zero, suc}
 use Rattle.ring.specs.CommRing.{CommRing}
 use Rattle.triple.specs.Ops.{ops}
 use Rattle.triple.specs.Triples.{zero3, neg3}

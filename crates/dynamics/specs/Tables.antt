@@ -1,5 +1,5 @@
 -- The algorithms as tables over the joints 1 to n: what each line says of each joint.
-use Rattle.std.specs.Prelude.{◌≡◌, ℕ, zero, suc, ◌<◌, ◌≤◌, Some, None}
+use Rattle.std.specs.Prelude.{◌≡◌, ℕ, suc, ◌<◌, ◌≤◌, Some, None}
 use Rattle.ring.specs.CommRing.{CommRing}
 use Rattle.tree_laws.specs.Children.{children}
 use Rattle.tree_laws.specs.Words.{climb}

@@ -1,12 +1,11 @@
 -- The figures that are known beforehand, in one list.
-use Rattle.std.specs.Prelude.{◌≡◌, ℕ, ◌^◌, true, List, [], ◌∷◌, pos, is_some, Some, None, Option, ◌≢◌}
+use Rattle.std.specs.Prelude.{◌≡◌, ℕ, ◌^◌, true, [], ◌∷◌, is_some, Some, None, ◌≢◌}
 use Rattle.std.specs.Option.{option_map}
 use Rattle.ring.specs.CommRing.{CommRing, IsUnit}
 use Rattle.modular.specs.Below.{Below, residue, one_part}
 use Rattle.residue.specs.Residues.{modulus, modulus_big, residues}
 use Rattle.word.specs.Words.{words, words_big}
 use Rattle.dual.specs.DualNumbers.{dual, duals, dual_parts}
-use Rattle.ring.specs.Whole.{whole}
 use Rattle.spatial.specs.Placements.{turn_norm}
 use Rattle.pendulum.specs.NewtonEuler.{newton_euler}
 use Rattle.figures.specs.Rigs.{torques_shown, masses_shown, accelerations_shown, none_at, all_of, swing, slides, crossed, small_tree}

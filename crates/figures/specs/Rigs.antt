@@ -1,5 +1,5 @@
 -- Rigs whose figures are known.
-use Rattle.std.specs.Prelude.{ℕ, List, [], ◌∷◌, ℤ, pos, negsuc, Some, None, Option}
+use Rattle.std.specs.Prelude.{ℕ, List, [], ◌∷◌, pos, negsuc, Option}
 use Rattle.std.specs.Option.{option_map}
 use Rattle.ring.specs.CommRing.{CommRing}
 use Rattle.ring.specs.Whole.{whole}

@@ -1,5 +1,5 @@
 -- Joints: a fixed placement, then the joint's own.
-use Rattle.std.specs.Prelude.{Some, None, Option}
+use Rattle.std.specs.Prelude.{Some, Option}
 use Rattle.ring.specs.CommRing.{CommRing}
 use Rattle.motion.specs.Vectors.{unit_turn, unit_slide}
 use Rattle.spatial.specs.Placements.{placement, outward, inward, turn, slid}

@@ -1,12 +1,12 @@
 -- The torque of a link that turns about a fixed axis, by Newton and Euler.
-use Rattle.std.specs.Prelude.{◌≡◌, Option}
+use Rattle.std.specs.Prelude.{Option}
 use Rattle.std.specs.Option.{option_map}
 use Rattle.ring.specs.CommRing.{CommRing}
-use Rattle.triple.specs.Ops.{Ops, ops}
+use Rattle.triple.specs.Ops.{ops}
 use Rattle.triple.specs.Triples.{triple, zero3, neg3}
-use Rattle.motion.specs.Vectors.{motion, force, motion_zero, unit_turn, motion_add, motion_scale, motion_cross, force_add, force_cross, pairing, motion_zero_by, unit_turn_by, motion_add_by, motion_scale_by, motion_cross_by, force_add_by, force_cross_by, pairing_by}
-use Rattle.spatial.specs.Placements.{outward, outward_by, turn}
-use Rattle.spatial.specs.Links.{link, momentum, momentum_by}
+use Rattle.motion.specs.Vectors.{motion, force, motion_zero, unit_turn, motion_add, motion_scale, motion_cross, force_add, force_cross, pairing}
+use Rattle.spatial.specs.Placements.{outward, turn}
+use Rattle.spatial.specs.Links.{link, momentum}
 use Rattle.triple.specs.declared.triple.Triple.{Triple}
 use Rattle.motion.specs.declared.vectors.Motion.{Motion}
 use Rattle.spatial.specs.declared.placement.Placement.{Placement}

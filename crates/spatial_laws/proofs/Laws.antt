@@ -1,9 +1,9 @@
 -- The laws of motions, forces, placements and inertias, in every ring.
-use Rattle.std.proofs.Common.{◌≡◌, List, [], ◌∷◌, ◌++◌, refl, ap, ◌∙◌}
+use Rattle.std.proofs.Common.{◌≡◌, [], ◌∷◌, ◌++◌, refl, ap, ◌∙◌}
 use Rattle.ring.specs.CommRing.{CommRing}
-use Rattle.ring.proofs.Solve.{Term, var}
+use Rattle.ring.proofs.Solve.{var}
 use Rattle.triple.specs.Ops.{Ops, ops}
-use Rattle.triple.specs.Triples.{triple, add3, sub3, cross3}
+use Rattle.triple.specs.Triples.{add3, sub3, cross3}
 use Rattle.linear.specs.Matrices.{times, transposed}
 use Rattle.triple.specs.declared.triple.Triple.{Triple}
 use Rattle.linear.specs.declared.matrix.Matrix3.{Matrix3}

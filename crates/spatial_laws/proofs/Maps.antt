@@ -8,19 +8,18 @@ use Rattle.linear.specs.Matrices.{matrix}
 use Rattle.triple.specs.declared.triple.Triple.{Triple}
 use Rattle.linear.specs.declared.matrix.Matrix3.{Matrix3}
 use Rattle.motion.specs.Vectors.{motion, force, motion_zero, unit_turn, unit_slide, motion_add, motion_scale, force_zero, force_add, force_scale, pairing, motion_cross, force_cross}
-use Rattle.spatial.specs.Placements.{placement, outward, inward, turn_norm, turned, turn, slid}
-use Rattle.spatial.specs.Links.{link, momentum}
+use Rattle.spatial.specs.Placements.{placement, outward, inward, turn_norm, turned, slid}
+use Rattle.spatial.specs.Links.{momentum}
 use Rattle.motion.specs.declared.vectors.Motion.{Motion}
 use Rattle.motion.specs.declared.vectors.Force.{Force}
 use Rattle.spatial.specs.declared.placement.Placement.{Placement}
 use Rattle.inertia.specs.Inertias.{inertia, of_link, applied, inertia_add, turned_inertia, shifted_inertia, carried, inertia_minus_outer}
 use Rattle.inertia.specs.declared.inertia.Inertia.{Inertia}
-use Rattle.rotation.specs.Rotations.{quaternion, norm, rows, rotation}
-use Rattle.joint.specs.Joints.{joint, axis, own, joint_outward, joint_inward, joint_carried}
+use Rattle.rotation.specs.Rotations.{quaternion, norm, rows}
+use Rattle.joint.specs.Joints.{axis, own}
 use Rattle.rotation.specs.declared.quaternion.Quaternion.{Quaternion}
 use Rattle.joint.specs.declared.kind.JointKind.{JointKind}
 use Rattle.joint.specs.declared.kind.JointKind.TheVariants.{Revolute, Prismatic}
-use Rattle.joint.specs.declared.joint.Joint.{Joint}
 use Rattle.spatial_laws.specs.SpatialMaps.{SpatialMap}
 
 module _ {N M : Type 0} (k : CommRing N) (l : CommRing M) (φ : N → M) (h : RingMap k l φ) where

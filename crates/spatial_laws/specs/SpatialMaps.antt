@@ -3,7 +3,6 @@ use Rattle.std.specs.Prelude.{◌≡◌}
 use Rattle.std.specs.Option.{option_map}
 use Rattle.ring.specs.CommRing.{CommRing}
 use Rattle.linear.specs.Matrices.{matrix}
-use Rattle.linear.specs.declared.matrix.Matrix3.{Matrix3}
 use Rattle.motion.specs.Vectors.{motion, force, motion_zero, motion_add, motion_scale, force_zero, force_add, force_scale, pairing, motion_cross, force_cross}
 use Rattle.spatial.specs.Placements.{placement}
 use Rattle.spatial.specs.Links.{link, momentum}

@@ -1,6 +1,6 @@
 -- The blocks of an inertia, turned and slid, in every ring.
 use mathlib.Core.Path.{◌≡◌, refl, ap, ◌∙◌}
-use mathlib.Core.List.{List, [], ◌∷◌, ◌++◌}
+use mathlib.Core.List.{[], ◌∷◌, ◌++◌}
 use Rattle.ring.specs.CommRing.{CommRing}
 use Rattle.ring.proofs.Solve.{var, opp}
 use Rattle.triple.specs.Ops.{Ops, ops}

@@ -1,6 +1,6 @@
 -- Motions and forces, turned and slid: the sparse forms are the general ones, in every ring.
 use mathlib.Core.Path.{◌≡◌, refl, ap, ◌∙◌}
-use mathlib.Core.List.{List, [], ◌∷◌, ◌++◌}
+use mathlib.Core.List.{[], ◌∷◌, ◌++◌}
 use Rattle.ring.specs.CommRing.{CommRing}
 use Rattle.ring.proofs.Solve.{var, opp}
 use Rattle.triple.specs.Ops.{Ops, ops}

@@ -1,10 +1,10 @@
 -- Articulated bodies in the subject's words: what each child hands down, and how each joint moves.
-use Rattle.std.specs.Prelude.{◌≡◌, ℕ, zero, suc, ◌<◌, ◌≤◌, Bool, true, false, ◌⊎◌, Some, None, Option, ◌==◌}
+use Rattle.std.specs.Prelude.{◌≡◌, ℕ, zero, suc, ◌<◌, ◌≤◌, ◌⊎◌, Some, None, Option, ◌==◌}
 use Rattle.std.proofs.Math.Path.{refl, sym, ap, ap₂, subst}
 use Rattle.std.proofs.Common.{◌∙◌, inl, inr, arith}
 use Rattle.ring.specs.CommRing.{CommRing}
 use Rattle.tree_laws.specs.Space.{Module, Pairing}
-use Rattle.tree_laws.specs.Tree.{Tree, put, put_at, put_off, bump, when, when_off, bump_op, pivot, left, handed_op, handed, accel, moved, next_op, next_bias, next_q, next_a, Outcome, refused, found, grow, aba, last?}
+use Rattle.tree_laws.specs.Tree.{Tree, put, put_at, put_off, bump, when, when_off, bump_op, pivot, left, handed_op, handed, accel, next_op, next_bias, next_q, next_a, Outcome, refused, found, grow, aba, last?}
 use Rattle.tree_laws.specs.Children.{children}
 use Rattle.tree_laws.specs.Sweep.{Swept, failed, swept, sweep, rise, finish, Kept, kept, next_op_off, next_bias_off, loops_are_aba}
 

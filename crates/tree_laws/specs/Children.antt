@@ -1,9 +1,9 @@
 -- The inward loop in the subject's words: a joint's force is its own and what its children carry.
-use Rattle.std.specs.Prelude.{◌≡◌, ℕ, zero, suc, ◌<◌, ◌≤◌, ◌==◌, refl}
+use Rattle.std.specs.Prelude.{◌≡◌, ℕ, zero, suc, ◌==◌}
 use Rattle.std.proofs.Math.Path.{sym, ap}
-use Rattle.std.proofs.Common.{◌∙◌, ap₂, arith}
+use Rattle.std.proofs.Common.{◌∙◌, arith}
 use Rattle.ring.specs.CommRing.{CommRing}
-use Rattle.tree_laws.specs.Space.{Module, Pairing, plus_left}
+use Rattle.tree_laws.specs.Space.{Module, Pairing}
 use Rattle.tree_laws.specs.Tree.{Tree, bump, when, inward, untouched}
 
 module _ {Car Mot For : Type 0} (R : CommRing Car) (M : Module Car R Mot) (F : Module Car R For) (P : Pairing Car Mot For R M F) (t : Tree Car Mot For R M F P) where

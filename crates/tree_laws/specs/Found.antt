@@ -1,5 +1,5 @@
 -- Where accelerations are found, every pivot is a unit.
-use Rattle.std.specs.Prelude.{◌≡◌, ℕ, zero, suc, ◌≤◌, Some, None, Option}
+use Rattle.std.specs.Prelude.{◌≡◌, ℕ, zero, suc, Some, None, Option}
 use Rattle.std.proofs.Math.Path.{refl}
 use Rattle.ring.specs.CommRing.{CommRing}
 use Rattle.tree_laws.specs.Space.{Module, Pairing}

@@ -1,7 +1,7 @@
 -- A map of rings that reflects units commutes with the recursions.
-use Rattle.std.specs.Prelude.{◌≡◌, ℕ, zero, suc, ◌<◌, ◌≤◌, Bool, true, false, Some, None, Option, ◌==◌}
+use Rattle.std.specs.Prelude.{◌≡◌, ℕ, zero, suc, Bool, true, false, Some, None, Option, ◌==◌}
 use Rattle.std.proofs.Math.Path.{refl, ap, ap₂, fun_ext}
-use Rattle.std.proofs.Common.{sym, ◌∙◌, subst}
+use Rattle.std.proofs.Common.{sym, ◌∙◌}
 use Rattle.ring.specs.CommRing.{CommRing}
 use Rattle.tree_laws.specs.Space.{Module, Pairing, neg_unique, cancel_left, inverse_unique}
 use Rattle.tree_laws.specs.Tree.{Tree, put, bump, when, inward, forces, torque, left, handed_op, handed, accel, moved, pivot, bump_op, next_op, next_bias, next_q, next_a, outward, walk, next_k, mass, frame, Outcome, refused, found, grow, aba, Inverts}

@@ -1,8 +1,6 @@
 -- A commutative ring, modules over it, and a pairing of two modules.
-use Rattle.std.specs.Prelude.{◌≡◌, ℕ, zero, suc, ◌<◌, ◌≤◌, Bool, true, false, T, eqb, refl}
-use Rattle.std.proofs.Common.{sym, ◌∙◌, ap, arith, eqb→eq}
-use Rattle.std.proofs.Math.Path.{fun_ext}
-use Rattle.std.proofs.Math.Dec.{eqb_refl}
+use Rattle.std.specs.Prelude.{◌≡◌}
+use Rattle.std.proofs.Common.{sym, ◌∙◌, ap}
 use Rattle.ring.specs.CommRing.{CommRing}
 
 pub record Module (Car : Type 0) (R : CommRing Car) (Vec : Type 0) : Type 0 where

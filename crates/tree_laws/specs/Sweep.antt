@@ -1,10 +1,10 @@
 -- The accelerations by two loops: an inward one that fills tables, and an outward one that reads them.
-use Rattle.std.specs.Prelude.{◌≡◌, ℕ, zero, suc, ◌<◌, ◌≤◌, Some, None, Option}
+use Rattle.std.specs.Prelude.{◌≡◌, ℕ, zero, suc, ◌<◌, Some, None, Option}
 use Rattle.std.proofs.Math.Path.{refl, ap, fun_ext}
-use Rattle.std.proofs.Common.{sym, ◌∙◌, ap₂, subst, arith}
+use Rattle.std.proofs.Common.{◌∙◌, arith}
 use Rattle.ring.specs.CommRing.{CommRing}
 use Rattle.tree_laws.specs.Space.{Module, Pairing}
-use Rattle.tree_laws.specs.Tree.{Tree, put, put_at, put_off, bump, bump_off, when_off, bump_op, pivot, next_op, next_bias, next_q, next_a, Outcome, refused, found, grow, aba}
+use Rattle.tree_laws.specs.Tree.{Tree, put, put_at, put_off, bump_off, when_off, bump_op, pivot, next_op, next_bias, next_q, next_a, Outcome, refused, found, grow, aba}
 
 module _ {Car Mot For : Type 0} (R : CommRing Car) (M : Module Car R Mot) (F : Module Car R For) (P : Pairing Car Mot For R M F) (t : Tree Car Mot For R M F P)
     (c a0 : ℕ → Mot) (inv : Car → Option Car) (τ : ℕ → Car) where

@@ -1,9 +1,9 @@
 -- The statements.
 use Rattle.std.specs.Prelude.{◌≡◌, ℕ, zero, suc, ◌<◌, ◌≤◌, Option}
-use Rattle.std.proofs.Common.{sym, subst, arith}
+use Rattle.std.proofs.Common.{subst, arith}
 use Rattle.ring.specs.CommRing.{CommRing}
 use Rattle.tree_laws.specs.Space.{Module, Pairing}
-use Rattle.tree_laws.specs.Tree.{Tree, Inertia, Inverts, Right, Outcome, refused, Fails, fails_bound, fails_units, Reaches, unit_at, not_onto, onto, aba, aba_right, Moves, torque, sum, mass, massive, mass_symmetric, outward}
+use Rattle.tree_laws.specs.Tree.{Tree, Inertia, Inverts, Right, refused, Fails, fails_bound, fails_units, Reaches, unit_at, not_onto, onto, aba, aba_right, Moves, torque, sum, mass, massive, mass_symmetric, outward}
 use Rattle.tree_laws.specs.Natural.{Map, Related, aba_nat, torque_nat, outward_nat, mass_nat}
 
 module _ (Car Mot For : Type 0) where

@@ -1,10 +1,7 @@
-use Rattle.std.proofs.Common.{◌≡◌, ap, ◌∙◌}
-use Rattle.triple.specs.Ops.{ops}
-use Rattle.triple.specs.Triples.{triple}
-use Rattle.motion.specs.Vectors.{motion, force, motion_zero, unit_turn, motion_add, motion_scale, motion_cross, force_add, force_cross, pairing}
-use Rattle.spatial.specs.Placements.{placement, outward}
-use Rattle.spatial.specs.Links.{link, momentum}
-use Rattle.pendulum.specs.NewtonEuler.{pendulum, base, newton_euler_at}
+use Rattle.std.proofs.Common.{◌≡◌}
+use Rattle.motion.specs.Vectors.{motion, force, unit_turn, motion_scale}
+use Rattle.spatial.specs.Placements.{placement}
+use Rattle.pendulum.specs.NewtonEuler.{pendulum, newton_euler_at}
 use Rattle.pendulum.proofs.Pendulum.steps_at.Goals as goal
 
 pub returns : goal.returns

@@ -1,7 +1,6 @@
-use Rattle.std.proofs.Common.{◌≡◌, Some, None, Option, ap, ◌∙◌, rules}
+use Rattle.std.proofs.Common.{◌≡◌, Some, ap, ◌∙◌}
 use Rattle.std.specs.Option.{option_map}
 use Rattle.pendulum.specs.NewtonEuler.{pendulum, steps, newton_euler, newton_euler_at}
-use Rattle.pendulum.specs.declared.Steps.{Steps}
 use Rattle.pendulum.proofs.Torque.{torque_equation}
 use Rattle.pendulum.proofs.Pendulum.torque.Goals as goal
 

@@ -1,4 +1,4 @@
-use Rattle.std.proofs.Common.{sym, ap, ◌∙◌}
+use Rattle.std.proofs.Common.{sym, ◌∙◌}
 use Rattle.dual.specs.DualNumbers.{dual_eq}
 use Rattle.dual.proofs.DualCopies.{dual_copies}
 use Rattle.dual.proofs.dual.DualRing.natural.Goals as goal

@@ -1,4 +1,4 @@
-use Rattle.std.proofs.Common.{◌≡◌, ◌-◌, ◌<◌, ◌≤◌, length, sym, ◌∙◌, arith}
+use Rattle.std.proofs.Common.{◌≡◌, ◌≤◌, length, sym, ◌∙◌, arith}
 use Rattle.dual.proofs.Places.{nth_found, nth_missing, nth_back}
 use Rattle.dual.proofs.dual.DualRing.part.Goals as goal
 
