@@ -1,5 +1,5 @@
 -- The turns of the walk over composite bodies.
-use Rattle.std.proofs.Common.{◌≡◌, ℕ, zero, suc, ◌+◌, ◌-◌, ◌*◌, ◌<◌, ◌≤◌, ◌≢◌, ◌⊎◌, List, length, get_or, set, sym, refl, ap, ◌∙◌, subst, ap₂, inl, inr, arith}
+use Rattle.std.proofs.Common.{◌≡◌, ℕ, zero, suc, ◌*◌, ◌<◌, ◌≤◌, ◌≢◌, ◌⊎◌, List, length, get_or, set, sym, refl, ap, ◌∙◌, subst, ap₂, inl, inr, arith}
 use native.Mathlib.Decide.{dec_le}
 use Rattle.std.proofs.lemmas.List.{get_or_default}
 use Rattle.std.proofs.lemmas.Bool.{cases_eq}
@@ -8,7 +8,7 @@ use Rattle.motion.specs.Vectors.{force, force_add}
 use Rattle.spatial.specs.Placements.{outward, inward}
 use Rattle.motion.specs.declared.vectors.Motion.{Motion}
 use Rattle.motion.specs.declared.vectors.Force.{Force}
-use Rattle.inertia.specs.Inertias.{inertia, applied, of_link, inertia_add, carried}
+use Rattle.inertia.specs.Inertias.{inertia, applied, inertia_add, carried}
 use Rattle.inertia.specs.declared.inertia.Inertia.{Inertia}
 use Rattle.joint.specs.Joints.{joint_outward, joint_inward, joint_carried}
 use Rattle.joint.specs.declared.joint.Joint.{Joint}
@@ -22,7 +22,7 @@ use Rattle.dynamics.specs.Tables.{climbed}
 use Rattle.dynamics.specs.Laws.{composites}
 use Rattle.dynamics.proofs.Laws.{dynamics_laws}
 use Rattle.rig.specs.declared.work.Work.{Work}
-use Rattle.rig.specs.Cells.{cell, Both, Left, Past, Zeros, Climbs, OwnInertias, with_inertia}
+use Rattle.rig.specs.Cells.{cell, Both, Past, Zeros, Climbs, OwnInertias, with_inertia}
 use Rattle.rig.specs.Shows.{Shown}
 use Rattle.rig.proofs.Outward.{set_cases}
 use Rattle.rig.proofs.Climb.{cell_below, both_left, both_is}

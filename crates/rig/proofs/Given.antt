@@ -1,10 +1,10 @@
 -- What was worked out stays true to the numbers that were given.
-use Rattle.std.proofs.Common.{◌≡◌, ℕ, zero, suc, ◌+◌, ◌-◌, ◌<◌, ◌≤◌, ◌≢◌, ◌⊎◌, List, [], ◌∷◌, length, get_or, set, ℤ, Some, None, Option, sym, refl, ap, ◌∙◌, subst, ap₂, inl, inr, add-one, arith, get_or-set_other, get_or-set_same, below_more}
+use Rattle.std.proofs.Common.{◌≡◌, ℕ, zero, suc, ◌+◌, ◌<◌, ◌≤◌, ◌≢◌, ◌⊎◌, List, [], ◌∷◌, length, get_or, set, ℤ, Some, None, Option, sym, refl, ap, ◌∙◌, subst, ap₂, inl, inr, add-one, arith, get_or-set_other, get_or-set_same, below_more}
 use Rattle.std.proofs.lemmas.Bool.{cases_eq}
 use Rattle.std.specs.Option.{option_map}
 use Rattle.ring.specs.CommRing.{CommRing}
-use Rattle.ring.specs.Laws.{mul_zero, neg_zero, inverse_of, zero_mul}
-use Rattle.spatial.specs.Placements.{placement, turn, turn_norm, turned, slid}
+use Rattle.ring.specs.Laws.{mul_zero, neg_zero, inverse_of}
+use Rattle.spatial.specs.Placements.{turn, turn_norm, turned}
 use Rattle.spatial.specs.declared.placement.Placement.{Placement}
 use Rattle.joint.specs.Joints.{own}
 use Rattle.third_axis.specs.Turns.{rotated, cosine_at, sine_at}

@@ -1,10 +1,9 @@
 -- What a rig holds of a joint is what its row and its slot have.
-use Rattle.std.proofs.Common.{◌≡◌, ℕ, zero, suc, ◌-◌, ◌<◌, ◌≤◌, min, Bool, true, cond, List, map, length, get_or, pos, sym, refl, ap, ◌∙◌, arith}
+use Rattle.std.proofs.Common.{◌≡◌, ℕ, zero, suc, ◌-◌, ◌<◌, ◌≤◌, min, true, cond, map, length, get_or, pos, refl, ap, ◌∙◌, arith}
 use Rattle.std.proofs.lemmas.List.{get_or-map}
 use Rattle.ring.specs.CommRing.{CommRing}
 use Rattle.triple.specs.Triples.{triple}
-use Rattle.joint.specs.declared.joint.Joint.{Joint}
-use Rattle.dynamics.specs.Held.{Held, par}
+use Rattle.dynamics.specs.Held.{par}
 use Rattle.rig.specs.declared.slot.Slot.{Slot}
 use Rattle.rig.specs.declared.table.Row.{Row}
 use Rattle.rig.specs.declared.rig.Rig.{Rig}

@@ -1,10 +1,8 @@
 -- The turns of the inward walk.
-use Rattle.std.proofs.Common.{◌≡◌, ℕ, zero, suc, ◌+◌, ◌-◌, ◌<◌, ◌≤◌, ◌≢◌, ◌⊎◌, List, [], map, length, get_or, set, sym, refl, ap, ◌∙◌, subst, ap₂, inl, inr, add-one, arith, get_or-set_other, get_or-set_same}
+use Rattle.std.proofs.Common.{◌≡◌, ℕ, zero, suc, ◌<◌, ◌≤◌, ◌≢◌, List, length, get_or, set, sym, refl, ap, ◌∙◌, subst, ap₂, arith, get_or-set_other}
 use Rattle.std.proofs.lemmas.List.{get_or_default}
-use Rattle.std.proofs.lemmas.Bool.{cases_eq}
 use Rattle.ring.specs.CommRing.{CommRing}
 use Rattle.motion.specs.Vectors.{force, force_add, pairing}
-use Rattle.motion.specs.declared.vectors.Motion.{Motion}
 use Rattle.motion.specs.declared.vectors.Force.{Force}
 use Rattle.joint.specs.Joints.{joint_inward}
 use Rattle.tree_laws.specs.Tree.{inward, bump, bump_off, when_on, untouched}
@@ -13,7 +11,6 @@ use Rattle.dynamics.specs.Modules.{motions, forces, power, tree}
 use Rattle.dynamics.specs.Recursions.{S, torques}
 use Rattle.dynamics.specs.Laws.{own_force, joint_force}
 use Rattle.dynamics.proofs.Laws.{dynamics_laws}
-use Rattle.rig.specs.declared.work.Moving.{Moving}
 use Rattle.rig.specs.declared.work.Work.{Work}
 use Rattle.rig.specs.Moves.{MovesTo, with_carried}
 use Rattle.rig.proofs.Outward.{set_cases}

@@ -1,11 +1,8 @@
 -- The turns of the outward walk.
-use Rattle.std.proofs.Common.{◌≡◌, ℕ, zero, suc, ◌+◌, ◌<◌, ◌≤◌, ◌≢◌, ◌⊎◌, List, length, get_or, set, sym, refl, ap, ◌∙◌, subst, ap₂, inl, inr, add-one, arith, get_or-set_other, get_or-set_same}
-use Rattle.std.proofs.lemmas.List.{get_or_default}
+use Rattle.std.proofs.Common.{◌≡◌, ℕ, suc, ◌+◌, ◌<◌, ◌≢◌, ◌⊎◌, List, length, get_or, set, sym, ap, ◌∙◌, subst, ap₂, inl, inr, add-one, arith, get_or-set_other, get_or-set_same}
 use Rattle.std.proofs.lemmas.Bool.{cases_eq}
 use Rattle.ring.specs.CommRing.{CommRing}
 use Rattle.motion.specs.Vectors.{motion, force, motion_add, motion_scale, motion_cross, force_add, force_cross}
-use Rattle.motion.specs.declared.vectors.Motion.{Motion}
-use Rattle.motion.specs.declared.vectors.Force.{Force}
 use Rattle.joint.specs.Joints.{joint_outward}
 use Rattle.dynamics.specs.Held.{Held, par}
 use Rattle.dynamics.specs.Recursions.{S, own_inertia, spin, base, velocity, accelerated}

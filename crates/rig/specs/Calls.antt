@@ -1,5 +1,5 @@
 -- What each call leaves. Numbers are given as values, which v takes to the numbers of the ring k.
-use Rattle.std.specs.Prelude.{◌≡◌, ℕ, suc, ◌+◌, ◌-◌, ◌<◌, List, [], ◌∷◌, map, length, set, ℤ, pos, Some, slice_index_or, slice_set}
+use Rattle.std.specs.Prelude.{◌≡◌, ℕ, suc, ◌+◌, ◌-◌, ◌<◌, List, [], ◌∷◌, ℤ, pos, Some, slice_index_or, slice_set}
 use Rattle.ring.specs.CommRing.{CommRing}
 use Rattle.triple.specs.Ops.{ops}
 use Rattle.triple.specs.Triples.{triple, zero3}
@@ -13,7 +13,6 @@ use Rattle.joint.specs.declared.kind.JointKind.{JointKind}
 use Rattle.rotation.specs.declared.quaternion.Quaternion.{Quaternion}
 use Rattle.dynamics.specs.Given.{placed}
 use Rattle.rig.specs.declared.slot.Slot.{Slot}
-use Rattle.rig.specs.declared.table.Table.{Table}
 use Rattle.rig.specs.declared.rig.Rig.{Rig}
 use Rattle.rig.specs.Tables.{row, row_at, with_row}
 use Rattle.rig.specs.Questions.{kind_of}

@@ -1,5 +1,5 @@
 -- What a rig holds: what the recursions take.
-use Rattle.std.specs.Prelude.{ℕ, ◌-◌, Bool, cond, List, map, get_or, pos, slice_index_or}
+use Rattle.std.specs.Prelude.{ℕ, ◌-◌, cond, List, map, get_or, pos, slice_index_or}
 use Rattle.ring.specs.CommRing.{CommRing}
 use Rattle.dynamics.specs.Held.{Held}
 use Rattle.rig.specs.declared.slot.Slot.{Slot}

@@ -1,5 +1,5 @@
 -- What a show writes.
-use Rattle.std.specs.Prelude.{◌≡◌, ℕ, ◌+◌, List, map, take, drop}
+use Rattle.std.specs.Prelude.{◌≡◌, ℕ, List, map, take, drop}
 
 -- the first m entries of the result list stand for the numbers shown, and the further ones are as they were
 pub record Shown {S N : Type 0} (v : S → N) (m : ℕ) (numbers : List N) (old new : List S) : Type 0 where

@@ -2,10 +2,8 @@
 use Rattle.ring.specs.CommRing.{CommRing}
 use Rattle.triple.specs.Triples.{triple, zero3}
 use Rattle.triple.specs.Ops.{ops}
-use Rattle.triple.specs.declared.triple.Triple.{Triple}
 use Rattle.spatial.specs.Placements.{placement, slid}
 use Rattle.spatial.specs.Links.{link}
-use Rattle.spatial.specs.declared.placement.Placement.{Placement}
 use Rattle.rotation.specs.Rotations.{quaternion}
 use Rattle.dynamics.specs.Given.{Given, blank}
 use Rattle.pose.specs.Poses.{own_at}

@@ -1,5 +1,5 @@
 -- The table of a rig: row k has the parent and the kind of joint k + 1.
-use Rattle.std.specs.Prelude.{ℕ, ◌-◌, ◌<◌, ◌≤◌, List, slice_index_or, slice_set}
+use Rattle.std.specs.Prelude.{ℕ, ◌<◌, ◌≤◌, slice_index_or, slice_set}
 use Rattle.joint.specs.declared.kind.JointKind.{JointKind}
 use Rattle.joint.specs.declared.kind.JointKind.TheVariants.{Revolute}
 use Rattle.rig.specs.declared.table.Row.{Row}

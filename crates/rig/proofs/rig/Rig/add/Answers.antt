@@ -1,4 +1,4 @@
-use Rattle.std.proofs.Common.{◌≡◌, ◌+◌, ◌<◌, true, false, length, pos, is_some, sym, refl, ap, ◌∙◌, length-set, w64, rules}
+use Rattle.std.proofs.Common.{◌≡◌, ◌+◌, ◌<◌, true, length, pos, is_some, sym, refl, ap, ◌∙◌, length-set, w64, rules}
 use Rattle.std.proofs.lemmas.Int.{to_z-of_z}
 use Rattle.rotation.specs.Rotations.{quaternion, norm, rows}
 use Rattle.rig.specs.Questions.{is_parent, has_room}

@@ -1,6 +1,6 @@
-use Rattle.std.proofs.Common.{◌≡◌, ℕ, suc, ◌+◌, ◌-◌, ◌*◌, ◌<◌, ◌≤◌, length, get_or, sym, refl, ap, ◌∙◌, subst, ap₂, add-one, arith, rules}
+use Rattle.std.proofs.Common.{◌≡◌, ◌+◌, ◌-◌, ◌*◌, ◌<◌, ◌≤◌, length, get_or, sym, ap, ◌∙◌, subst, ap₂, add-one, arith, rules}
 use Rattle.std.proofs.lemmas.List.{get_or_default}
-use Rattle.motion.specs.Vectors.{motion, force}
+use Rattle.motion.specs.Vectors.{force}
 use Rattle.inertia.specs.Inertias.{inertia, applied, inertia_add}
 use Rattle.joint.specs.Joints.{axis, joint_carried}
 use Rattle.dynamics.specs.Recursions.{S}

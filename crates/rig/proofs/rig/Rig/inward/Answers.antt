@@ -1,11 +1,9 @@
-use Rattle.std.proofs.Common.{◌≡◌, ℕ, suc, ◌+◌, ◌-◌, ◌<◌, ◌≤◌, length, sym, refl, ap, ◌∙◌, subst, ap₂, add-one, arith, rules}
+use Rattle.std.proofs.Common.{◌≡◌, ◌+◌, ◌-◌, ◌<◌, length, ap, ◌∙◌, ap₂, add-one, arith, rules}
 use Rattle.std.proofs.lemmas.List.{get_or_default}
-use Rattle.motion.specs.Vectors.{motion, force, force_add, pairing}
+use Rattle.motion.specs.Vectors.{force, force_add, pairing}
 use Rattle.joint.specs.Joints.{axis, joint_inward}
 use Rattle.dynamics.specs.Recursions.{S, torques}
-use Rattle.dynamics.specs.Held.{par}
 use Rattle.rig.specs.Holds.{rig_holds}
-use Rattle.rig.specs.Moves.{with_carried}
 use Rattle.rig.proofs.Held.{holds_n}
 use Rattle.rig.proofs.Inward.{carrying_all, carries_on, hands_none, hands_on, tab}
 use Rattle.rig.proofs.Listed.{shown}

@@ -1,4 +1,3 @@
-use Rattle.std.proofs.Common.{refl}
 use Rattle.rig.specs.Holds.{rig_holds}
 use Rattle.rig.proofs.Held.{holds_n}
 use Rattle.rig.proofs.Inward.{Carrying}

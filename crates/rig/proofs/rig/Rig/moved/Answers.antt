@@ -1,8 +1,8 @@
 use Rattle.std.proofs.Common.{◌≡◌, sym, ap, ◌∙◌, ap₂}
-use Rattle.motion.specs.Vectors.{motion, force, motion_add, motion_scale, motion_cross, force_add, force_cross}
+use Rattle.motion.specs.Vectors.{motion, motion_add, motion_scale, motion_cross, force_add, force_cross}
 use Rattle.spatial.specs.Links.{link, momentum}
 use Rattle.joint.specs.Joints.{axis, joint_outward}
-use Rattle.dynamics.specs.Recursions.{S, spin, own_inertia}
+use Rattle.dynamics.specs.Recursions.{S, spin}
 use Rattle.rig.specs.Holds.{rig_holds}
 use Rattle.rig.proofs.Held.{holds_link, holds_rate, holds_acceleration}
 use Rattle.rig.proofs.rig.Rig.moved.Goals as goal

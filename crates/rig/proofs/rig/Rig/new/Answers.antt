@@ -1,4 +1,4 @@
-use Rattle.std.proofs.Common.{◌≡◌, ◌<◌, ◌≤◌, List, [], ◌∷◌, length, get_or, set, sym, refl, ap, ◌∙◌, subst, arith}
+use Rattle.std.proofs.Common.{◌≡◌, ◌<◌, ◌≤◌, List, [], ◌∷◌, length, get_or, set, refl, arith}
 use Rattle.ring.specs.CommRing.{CommRing}
 use Rattle.triple.specs.Ops.{ops}
 use Rattle.triple.specs.Triples.{triple, zero3}

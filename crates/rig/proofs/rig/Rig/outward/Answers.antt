@@ -1,4 +1,4 @@
-use Rattle.std.proofs.Common.{◌≡◌, ◌+◌, ◌<◌, ◌≤◌, length, sym, ◌∙◌, subst, arith, rules}
+use Rattle.std.proofs.Common.{◌≡◌, ◌+◌, ◌<◌, length, sym, subst, arith, rules}
 use Rattle.rig.specs.Holds.{rig_holds}
 use Rattle.rig.specs.Moves.{MovesTo}
 use Rattle.rig.proofs.Held.{holds_n}

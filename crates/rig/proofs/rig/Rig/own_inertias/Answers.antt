@@ -1,4 +1,4 @@
-use Rattle.std.proofs.Common.{◌≡◌, ℕ, suc, ◌+◌, ◌<◌, length, sym, ap, ◌∙◌, subst, add-one, arith, rules}
+use Rattle.std.proofs.Common.{◌≡◌, suc, ◌+◌, ◌<◌, length, sym, ap, ◌∙◌, arith, rules}
 use Rattle.spatial.specs.Links.{link}
 use Rattle.inertia.specs.Inertias.{inertia, of_link}
 use Rattle.rig.specs.Holds.{rig_holds}

@@ -1,4 +1,4 @@
-use Rattle.std.proofs.Common.{◌≡◌, ◌-◌, sym, ap, ◌∙◌}
+use Rattle.std.proofs.Common.{◌-◌, sym, ap, ◌∙◌}
 use Rattle.rig.specs.Tables.{row_at}
 use Rattle.rig.specs.Slots.{slot, slot_joint}
 use Rattle.rig.proofs.Held.{holds_joint}

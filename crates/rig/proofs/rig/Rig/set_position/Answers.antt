@@ -1,11 +1,11 @@
-use Rattle.std.proofs.Common.{◌≡◌, ℕ, ◌-◌, ◌<◌, length, get_or, pos, Some, sym, refl, ap, ◌∙◌, subst, arith, w64, rules}
+use Rattle.std.proofs.Common.{◌≡◌, ◌-◌, ◌<◌, length, pos, Some, sym, refl, ap, ◌∙◌, subst, arith, w64, rules}
 use Rattle.std.proofs.lemmas.Int.{to_z-of_z}
 use Rattle.spatial.specs.Placements.{placement}
 use Rattle.joint.specs.Joints.{own}
 use Rattle.pose.specs.Poses.{own_at}
 use Rattle.rig.specs.Tables.{row_at}
 use Rattle.rig.specs.Questions.{is_joint, joint_number}
-use Rattle.rig.specs.Calls.{with_position, Changed, Positioned}
+use Rattle.rig.specs.Calls.{with_position, Positioned}
 use Rattle.rig.proofs.Asked.{no_joint, no_position, positions, settled, fit_kept}
 use Rattle.rig.proofs.Given.{positioned_true, kept_own}
 use Rattle.rig.proofs.rig.Rig.set_position.Goals as goal

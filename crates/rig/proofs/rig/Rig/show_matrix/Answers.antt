@@ -1,5 +1,4 @@
-use Rattle.std.proofs.Common.{◌≡◌, ◌*◌, ◌≤◌, length, drop, sym, refl, ◌∙◌, subst, arith}
-use Rattle.rig.specs.Shows.{Shown}
+use Rattle.std.proofs.Common.{◌*◌, length, refl}
 use Rattle.rig.proofs.Asked.{short_result, short_work, shows}
 use Rattle.rig.proofs.Listed.{shown_past}
 use Rattle.rig.proofs.rig.Rig.show_matrix.Goals as goal

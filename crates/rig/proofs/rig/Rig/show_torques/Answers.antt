@@ -1,4 +1,4 @@
-use Rattle.std.proofs.Common.{◌≡◌, length, refl, arith}
+use Rattle.std.proofs.Common.{length, refl, arith}
 use Rattle.dynamics.specs.Recursions.{torques}
 use Rattle.rig.specs.Holds.{rig_holds}
 use Rattle.rig.proofs.Asked.{short_result, short_work, shows}

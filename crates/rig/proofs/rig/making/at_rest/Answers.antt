@@ -1,5 +1,4 @@
-use Rattle.std.proofs.Common.{◌≡◌, Some, sym, refl, ap, ◌∙◌}
-use Rattle.spatial.specs.Placements.{placement}
+use Rattle.std.proofs.Common.{Some, sym, refl, ap, ◌∙◌}
 use Rattle.joint.specs.Joints.{own}
 use Rattle.pose.specs.Poses.{own_at}
 use Rattle.rig.specs.Slots.{blank_slot}

@@ -1,4 +1,4 @@
-use Rattle.std.proofs.Common.{◌≡◌, ◌+◌, ◌∙◌, arith, get_or-set_other}
+use Rattle.std.proofs.Common.{◌≡◌, ◌∙◌, arith, get_or-set_other}
 use Rattle.rig.proofs.Outward.{set_cases}
 use Rattle.rig.proofs.rig.matrix.clear.Goals as goal
 

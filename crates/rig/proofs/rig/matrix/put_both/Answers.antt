@@ -1,5 +1,4 @@
 use Rattle.std.proofs.Common.{◌+◌, ◌*◌, ◌<◌, length, arith, length-set, rules}
-use Rattle.rig.specs.Cells.{cell}
 use Rattle.rig.proofs.Climb.{cell_below}
 use Rattle.rig.proofs.rig.matrix.put_both.Goals as goal
 
