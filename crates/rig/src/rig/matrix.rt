@@ -37,7 +37,7 @@ impl<'a, R: Ring> Rig<'a, R> {
     {
         let mut j = i;
         let mut f = force;
-        loop {
+        'steps: loop {
             let joint = self.pose(j);
             put_both(res, self.n, i - 1, j - 1, joint.component(f));
             let p = self.parent(j);

@@ -7,8 +7,8 @@ use Rattle.rig.specs.Cells.{Climbs}
 use Rattle.rig.proofs.Climb.{Climbing, climbing_starts, climb_ends, climb_on}
 use Rattle.rig.proofs.rig.Rig.climb.Goals as goal
 
-pub loop-f-init : goal.loop-f-init
-loop-f-init g c =
+pub steps-init : goal.steps-init
+steps-init g c =
     let k = g.R.Ring.ring in
     let v = g.R.Ring.value in
     let s = c.args.self.now in
@@ -16,26 +16,26 @@ loop-f-init g c =
 
 pub pose-joint-requires : goal.pose-joint-requires
 pose-joint-requires g c =
-    let low = c.loop-f.invariant.1.low in
-    (c.loop-f.invariant.0, omega (arith, low, c.requires.low, c.requires.high, c.loop-f.invariant.0))
+    let low = c.steps.invariant.1.low in
+    (c.steps.invariant.0, omega (arith, low, c.requires.low, c.requires.high, c.steps.invariant.0))
 
 pub overflow_sub-j : goal.overflow_sub-j
-overflow_sub-j g c = omega (arith, c.loop-f.invariant.0)
+overflow_sub-j g c = omega (arith, c.steps.invariant.0)
 
 pub put_both-requires : goal.put_both-requires
 put_both-requires g c =
-    let low = c.loop-f.invariant.1.low in
+    let low = c.steps.invariant.1.low in
     record {
       few = c.args.self.now.few;
       row = omega (arith, c.requires.low, c.requires.high);
-      column = omega (arith, low, c.requires.low, c.requires.high, c.loop-f.invariant.0);
-      room = let same = c.loop-f.auto.res in subst (λ m. c.args.self.now.n * c.args.self.now.n ≤ m) (sym same) c.requires.room;
+      column = omega (arith, low, c.requires.low, c.requires.high, c.steps.invariant.0);
+      room = let same = c.steps.auto.res in subst (λ m. c.args.self.now.n * c.args.self.now.n ≤ m) (sym same) c.requires.room;
     }
 
 pub parent-p-requires : goal.parent-p-requires
 parent-p-requires g c =
-    let low = c.loop-f.invariant.1.low in
-    (c.loop-f.invariant.0, omega (arith, low, c.requires.low, c.requires.high, c.loop-f.invariant.0))
+    let low = c.steps.invariant.1.low in
+    (c.steps.invariant.0, omega (arith, low, c.requires.low, c.requires.high, c.steps.invariant.0))
 
 pub returns-then-p-eq0 : goal.returns-then-p-eq0
 returns-then-p-eq0 g c =
@@ -44,37 +44,37 @@ returns-then-p-eq0 g c =
     let s = c.args.self.now in
     let h = rig_holds k v s in
     let a = c.args.i - 1 in
-    let j = c.loop-f.j - 1 in
-    let pos = c.loop-f.invariant.0 in
-    let at : c.loop-f.j ≡ suc (c.loop-f.j - 1) = omega (arith, pos) in
+    let j = c.steps.j - 1 in
+    let pos = c.steps.invariant.0 in
+    let at : c.steps.j ≡ suc (c.steps.j - 1) = omega (arith, pos) in
     let la : c.args.i - 1 < s.n = omega (arith, c.requires.low, c.requires.high) in
-    let same = c.loop-f.auto.res in
-    let room : s.n * s.n ≤ length c.loop-f.res = subst (λ m. s.n * s.n ≤ m) (sym same) c.requires.room in
-    let entry : v c.component.result ≡ pairing k (S k h c.loop-f.j) (force v c.loop-f.f) =
-    c.component.ensures ∙ ap (λ x. pairing k (axis k x.kind) (force v c.loop-f.f)) c.pose-joint.ensures in
+    let same = c.steps.auto.res in
+    let room : s.n * s.n ≤ length c.steps.res = subst (λ m. s.n * s.n ≤ m) (sym same) c.requires.room in
+    let entry : v c.component.result ≡ pairing k (S k h c.steps.j) (force v c.steps.f) =
+    c.component.ensures ∙ ap (λ x. pairing k (axis k x.kind) (force v c.steps.f)) c.pose-joint.ensures in
     subst (λ xs. Climbs k v h s.n a c.args.force c.args.res.now xs) (sym c.put_both.ensures)
-    (climb_ends k v h s.n a c.args.force c.args.res.now j c.loop-f.j at c.loop-f.f c.loop-f.res c.loop-f.invariant.1 la room
+    (climb_ends k v h s.n a c.args.force c.args.res.now j c.steps.j at c.steps.f c.steps.res c.steps.invariant.1 la room
     c.component.result entry c.parent-p.result c.parent-p.ensures.is c.if-p-eq0.true)
 
-pub loop-f-preserved : goal.loop-f-preserved
-loop-f-preserved g c =
+pub steps-preserved : goal.steps-preserved
+steps-preserved g c =
     let k = g.R.Ring.ring in
     let v = g.R.Ring.value in
     let s = c.args.self.now in
     let h = rig_holds k v s in
     let a = c.args.i - 1 in
-    let j = c.loop-f.j - 1 in
-    let pos = c.loop-f.invariant.0 in
-    let at : c.loop-f.j ≡ suc (c.loop-f.j - 1) = omega (arith, pos) in
+    let j = c.steps.j - 1 in
+    let pos = c.steps.invariant.0 in
+    let at : c.steps.j ≡ suc (c.steps.j - 1) = omega (arith, pos) in
     let la : c.args.i - 1 < s.n = omega (arith, c.requires.low, c.requires.high) in
-    let same = c.loop-f.auto.res in
-    let room : s.n * s.n ≤ length c.loop-f.res = subst (λ m. s.n * s.n ≤ m) (sym same) c.requires.room in
-    let entry : v c.component.result ≡ pairing k (S k h c.loop-f.j) (force v c.loop-f.f) =
-    c.component.ensures ∙ ap (λ x. pairing k (axis k x.kind) (force v c.loop-f.f)) c.pose-joint.ensures in
+    let same = c.steps.auto.res in
+    let room : s.n * s.n ≤ length c.steps.res = subst (λ m. s.n * s.n ≤ m) (sym same) c.requires.room in
+    let entry : v c.component.result ≡ pairing k (S k h c.steps.j) (force v c.steps.f) =
+    c.component.ensures ∙ ap (λ x. pairing k (axis k x.kind) (force v c.steps.f)) c.pose-joint.ensures in
     let ne = c.if-p-eq0.false in (
       omega (arith, ne),
       subst (λ xs. Climbing k v h s.n a c.args.force c.args.res.now (c.parent-p.result - 1) c.inward-f.result xs) (sym c.put_both.ensures)
-          (climb_on k v h s.n a c.args.force c.args.res.now j c.loop-f.j at c.loop-f.f c.loop-f.res c.loop-f.invariant.1 la room
+          (climb_on k v h s.n a c.args.force c.args.res.now j c.steps.j at c.steps.f c.steps.res c.steps.invariant.1 la room
           c.component.result entry c.parent-p.result c.parent-p.ensures.is ne c.inward-f.result
-          (c.inward-f.ensures ∙ ap (λ x. joint_inward k x (force v c.loop-f.f)) c.pose-joint.ensures)),
+          (c.inward-f.ensures ∙ ap (λ x. joint_inward k x (force v c.steps.f)) c.pose-joint.ensures)),
     )
