@@ -4,9 +4,9 @@
 usage: python3 tools/snake_names.py        at the top of the repository, once, after the toolchain's port.py
 
 A name counts as the repository's own if a text of specs/ or proofs/ declares it: as a definition, a lemma, a field,
-a parameter, a `let` or an import under another name. In a file that brings the same name in from the library, the library's
-is meant, and it stays. Names that the check makes (goals, and the steps behind `c.`) keep their dashes, and so does
-all that is outside of ghost text: code, strings and comments.
+a parameter, a variable of a clause, a `let` or an import under another name. In a file that brings the same name in
+from the library, the library's is meant, and it stays. Names that the check makes (goals, and the steps behind `c.`)
+keep their dashes, and so does all that is outside of ghost text: code, strings and comments.
 """
 
 import os
@@ -26,6 +26,7 @@ ANSWERS = re.compile(r"/proofs/.*/(Answers|Invariants|Choices)\.antt$")
 MARKS = r"(?:(?:pub|abbrev|unfoldable|opaque|pattern)\s+)*"
 DECLARED = re.compile(rf"(?m)^\s*{MARKS}({NAME})(?: \{{[^{{}}\n]*\}})?\s*:\s*(\S*)")
 BINDER = re.compile(r"[({]((?:[^\s(){}.;,]+\s+)*[^\s(){}.;,]+)\s+:\s")
+CLAUSE = re.compile(r"(?m)^\s*([^\s:=][^:=\n]*?) =(?=\s)")
 ALIAS = re.compile(rf"\bas ({NAME})")
 LET = re.compile(rf"\blet ({NAME})\s")
 IMPORT = re.compile(r"\buse (\S+?)\.\{([^}]*)\}")
@@ -52,6 +53,11 @@ def of_library(path):
     return not path.startswith("Rattle.") or path.split(".")[1] in ("std", "core")
 
 
+def brought(text):
+    """The names that a text brings in from the library."""
+    return {n for where, names in IMPORT.findall(text) if of_library(where) for n in re.split(r"[,\s]+", names)}
+
+
 def own_names():
     """The names with a dash, or with a capital behind a small letter, that texts of the repository declare."""
     found = set()
@@ -63,6 +69,10 @@ def own_names():
         for names in BINDER.findall(text):
             found.update(names.split())
         found.update(ALIAS.findall(text), LET.findall(text))
+        if not ANSWERS.search(path):
+            theirs = brought(text)
+            for clause in CLAUSE.findall(text):
+                found.update(set(TOKEN.findall(clause)) - theirs)
     for path in files(".rt"):
         for line in re.findall(r"\bghost use [^;]*;", read(path)):
             found.update(ALIAS.findall(line))
@@ -97,7 +107,7 @@ def turned(text, table, theirs, made):
 def antt(path, table):
     text = read(path)
     bare = COMMENT.sub("", text)
-    theirs = {n for where, names in IMPORT.findall(bare) if of_library(where) for n in re.split(r"[,\s]+", names)}
+    theirs = brought(bare)
     answers = ANSWERS.search(path)
     made = MADE if answers else ()
     goals = {n for n, of in DECLARED.findall(bare) if of.startswith("goal.")} if answers else set()

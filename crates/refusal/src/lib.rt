@@ -2,7 +2,7 @@
 #![tactic(auto)]
 
 ghost use Rattle.std.specs.Prelude.{◌≡◌};
-ghost use Rattle.refusal.specs.Refusals.{number as number_of_lem, joint as joint_of};
+ghost use Rattle.refusal.specs.Refusals.{number as number_of, joint as joint_of};
 
 #[derive(Clone, Copy, Debug, PartialEq, Eq)]
 pub enum Refusal {
@@ -19,7 +19,7 @@ pub enum Refusal {
 impl Refusal {
     // The number of the question that got a no.
     pub fn number(self) -> u32
-        ensures { result ≡ number_of_lem self }
+        ensures { result ≡ number_of self }
     {
         match self {
             Refusal::NoSlot => 1,

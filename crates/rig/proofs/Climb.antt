@@ -213,14 +213,14 @@ module _ {V N : Type 0} (k : CommRing N) (v : V → N) (h : Held N) (n a : ℕ) 
     pub climbing_on :
         (p : ℕ) → par h (suc j) ≡ suc p → (G' : Force V) → force v G' ≡ joint_inward k (h.joints (suc j)) (force v G)
         → Climbing p G' next
-    climbing_on p z G' eG =
+    climbing_on p z G' e_g =
         record {
           low = let m = c.low in omega arith;
           done = λ b l m. by b l m (dec_le j b);
           clear = λ b l. cleared b (omega arith);
           ahead = λ b l.
               c.ahead b (omega arith) ∙ climbed_on k h j p (force v G) b z l
-              ∙ ap (λ g. climbed k h (suc p) g (suc b)) (sym eG);
+              ∙ ap (λ g. climbed k h (suc p) g (suc b)) (sym e_g);
           others = kept;
           past = beyond;
         }
@@ -247,6 +247,6 @@ module _ {V N : Type 0} (k : CommRing N) (v : V → N) (h : Held N) (n a : ℕ) 
     pub climb_on :
         (p ≡ 0 → ⊥) → (G' : Force V) → force v G' ≡ joint_inward k (h.joints i) (force v G)
         → Climbing (p - 1) G' (put n new a j x)
-    climb_on ne G' eG =
+    climb_on ne G' e_g =
         let z : p ≡ suc (p - 1) = omega arith in
-        climbing_on j G new c la room x there (p - 1) (sym up ∙ z) G' (eG ∙ ap (λ i. joint_inward k (h.joints i) (force v G)) at)
+        climbing_on j G new c la room x there (p - 1) (sym up ∙ z) G' (e_g ∙ ap (λ i. joint_inward k (h.joints i) (force v G)) at)

@@ -96,7 +96,7 @@ module _ {S N : Type 0} (k : CommRing N) (v : S → N) where
       (s t : Rig S) (j : ℕ) (f : Slot S → Slot S) → Changed s t j f
       → ((i : ℕ) → suc i ≡ j → (x : Slot S) → Good (row_at s.table i) x → Good (row_at s.table i) (f x))
       → TrueToGiven k v s → TrueToGiven k v t
-  changed_true s t j f ch keep true-s i l d = rw (ch.table, ch.slots d) (by (cases_eq (suc i) j))
+  changed_true s t j f ch keep true_s i l d = rw (ch.table, ch.slots d) (by (cases_eq (suc i) j))
     where
       xs : List (Slot S)
       xs = s.slots.now
@@ -107,8 +107,8 @@ module _ {S N : Type 0} (k : CommRing N) (v : S → N) where
       by : (suc i ≡ j) ⊎ (suc i ≢ j) → Good (row_at s.table i) (get_or (set xs j (f (get_or xs j d))) (suc i) d)
       by (inl e) =
           subst (λ m. Good (row_at s.table i) (get_or (set xs m (f (get_or xs m d))) (suc i) d)) e
-          (rw (get_or-set_same xs (suc i) (f (get_or xs (suc i) d)) d (let h = s.fit in omega arith)) (keep i e _ (true-s i low d)))
-      by (inr ne) = rw (get_or-set_other xs j (suc i) (f (get_or xs j d)) d ne) (true-s i low d)
+          (rw (get_or-set_same xs (suc i) (f (get_or xs (suc i) d)) d (let h = s.fit in omega arith)) (keep i e _ (true_s i low d)))
+      by (inr ne) = rw (get_or-set_other xs j (suc i) (f (get_or xs j d)) d ne) (true_s i low d)
 
   pub positioned_true :
       (s t : Rig S) (j : ℕ) (q : S) → Positioned k v s t j q → TrueToGiven k v s → TrueToGiven k v t
@@ -163,7 +163,7 @@ module _ {S N : Type 0} (k : CommRing N) (v : S → N) where
       (s t : Rig S) (parent : ℤ) (letter : ℕ) (offset : Triple S) (turn : Quaternion S) (link : Link S)
       → Added k v s t parent letter offset turn link → s.n < 24 → s.n + 1 < length s.slots.now
       → TrueToGiven k v s → TrueToGiven k v t
-  added_true s t parent letter offset turn link a few room true-s i l d =
+  added_true s t parent letter offset turn link a few room true_s i l d =
       rw (a.table, a.slots) (by (cases_eq i s.n))
     where
       xs : List (Slot S)
@@ -193,7 +193,7 @@ module _ {S N : Type 0} (k : CommRing N) (v : S → N) where
       by (inl e) = subst At (sym e) here
       by (inr ne) =
           rw (get_or-set_other rows s.n i r blank_row ne)
-          (rw (get_or-set_other xs (s.n + 1) (suc i) x d (λ e. ne (omega arith))) (true-s i (omega arith) d))
+          (rw (get_or-set_other xs (s.n + 1) (suc i) x d (λ e. ne (omega arith))) (true_s i (omega arith) d))
 
 parent_set : (rows : List Row) (n m : ℕ) (r : Row) → r.parent ≤ m → (get_or (set rows n r) n blank_row).parent ≤ m
 parent_set [] n m r h = omega arith

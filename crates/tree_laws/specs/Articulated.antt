@@ -42,7 +42,7 @@ module _ {Car Mot For : Type 0} (R : CommRing Car) (M : Module Car R Mot) (F : M
     pub inertia : (i : ℕ) (m : Mot) → A i m ≡ I i m ⊞ down n i (λ k. rest k (A k) (d k) (X k m))
     -- bᵢ is its own plus X'(bₖ + (Aₖ − U D⁻¹ Uᵀ) cₖ + U D⁻¹ u) for each child k
     pub bias : (i : ℕ) → b i ≡ β i ⊞ down n i (λ k. push k (A k) (d k) (b k))
-    -- D = S-as-U has the inverse d
+    -- D = S·U has the inverse d
     pub pivots : (i : ℕ) → i < n → inv (pair (S (suc i)) (A (suc i) (S (suc i)))) ≡ Some (d (suc i))
 
   -- the joints' accelerations q and the motions a that they make

@@ -105,11 +105,11 @@ module _
       → (B : Mot → For) (B' : Mot' → For') → ((m : Mot) → ψ (B m) ≡ B' (μ m))
       → (i : ℕ) (m : Mot) → ψ (bump_op R M F P t A p B i m) ≡ bump_op R' M' F' P' t' A' p' B' i (μ m)
   unfolding bump_op
-  bump_op_nat A A' e_a p p' ep B B' eB i m =
+  bump_op_nat A A' e_a p p' ep B B' e_b i m =
       ψ_plus _ _ ∙ ap₂ F'.plus (e_a i m) (go (i == p) ∙ ap (λ p. when F' (i == p) (B' (μ m))) ep)
     where
       go : (b : Bool) → ψ (when F b (B m)) ≡ when F' b (B' (μ m))
-      go true = eB m
+      go true = e_b m
       go false = ψ_zer
 
   module _ (c : ℕ → Mot) (c' : ℕ → Mot') (ec : (i : ℕ) → μ (c i) ≡ c' i) (a0 : ℕ → Mot) (a0' : ℕ → Mot') (e0 : (i : ℕ) → μ (a0 i) ≡ a0' i) where
@@ -207,26 +207,26 @@ module _
   walk_nat :
       (n p : ℕ) (G : For) (G' : For') → ψ G ≡ G' → (i : ℕ) → φ (walk R M F P t n p G i) ≡ walk R' M' F' P' t' n p G' i
   unfolding walk
-  walk_nat zero p G G' eG i = φ_nil
-  walk_nat (suc n) p G G' eG i =
+  walk_nat zero p G G' e_g i = φ_nil
+  walk_nat (suc n) p G G' e_g i =
       ap (λ (f : ℕ → Car'). f i)
-      (put_nat {A = ℕ → Car} {B = ℕ → Car'} (λ f k. φ (f k)) _ _ (λ j. fun_ext (walk_nat n j G G' eG)) (suc n) _ _
+      (put_nat {A = ℕ → Car} {B = ℕ → Car'} (λ f k. φ (f k)) _ _ (λ j. fun_ext (walk_nat n j G G' e_g)) (suc n) _ _
       (fun_ext
       (put_nat φ _ _
       (λ j.
-      walk_nat n (t.par (suc n)) _ _ (ψ_X' (suc n) G ∙ ap (t'.X' (suc n)) eG) j
+      walk_nat n (t.par (suc n)) _ _ (ψ_X' (suc n) G ∙ ap (t'.X' (suc n)) e_g) j
       ∙ ap (λ p. walk R' M' F' P' t' n p (t'.X' (suc n) G') j) (same_par (suc n)))
-      (suc n) _ _ (φ_pair _ _ ∙ ap₂ P'.pair (μ_S (suc n)) eG))) p)
+      (suc n) _ _ (φ_pair _ _ ∙ ap₂ P'.pair (μ_S (suc n)) e_g))) p)
 
   pub mass_nat :
       (n : ℕ) (K : ℕ → Mot → For) (K' : ℕ → Mot' → For') → ((i : ℕ) (m : Mot) → ψ (K i m) ≡ K' i (μ m))
       → (i j : ℕ) → φ (mass R M F P t n K i j) ≡ mass R' M' F' P' t' n K' i j
   unfolding mass next_k frame
-  mass_nat zero K K' eK i j = φ_nil
-  mass_nat (suc n) K K' eK i j =
+  mass_nat zero K K' e_k i j = φ_nil
+  mass_nat (suc n) K K' e_k i j =
       ap (λ (f : ℕ → Car'). f j)
       (put_nat {A = ℕ → Car} {B = ℕ → Car'} (λ f k. φ (f k)) _ _
-      (λ i. fun_ext (put_nat φ _ _ (mass_nat n _ _ (bump_op_nat K K' eK _ _ (same_par (suc n)) _ _ (λ m. simp (ψ_X', eK, μ_X))) i) (suc n) _ _ (row i))) (suc n) _ _ (fun_ext row) i)
+      (λ i. fun_ext (put_nat φ _ _ (mass_nat n _ _ (bump_op_nat K K' e_k _ _ (same_par (suc n)) _ _ (λ m. simp (ψ_X', e_k, μ_X))) i) (suc n) _ _ (row i))) (suc n) _ _ (fun_ext row) i)
     where
       row : (i : ℕ) → φ (walk R M F P t (suc n) (suc n) (K (suc n) (t.S (suc n))) i) ≡ walk R' M' F' P' t' (suc n) (suc n) (K' (suc n) (t'.S (suc n))) i
-      row = walk_nat (suc n) (suc n) _ _ (eK (suc n) _ ∙ ap (K' (suc n)) (μ_S (suc n)))
+      row = walk_nat (suc n) (suc n) _ _ (e_k (suc n) _ ∙ ap (K' (suc n)) (μ_S (suc n)))

@@ -232,11 +232,11 @@ module _ {Car Mot For : Type 0} (R : CommRing Car) (M : Module Car R Mot) (F : M
   bump_op A p B i m = A i m + when F (i == p) (B m)
 
   pub sum_inertia : (A B : Op) → Inertia A → Inertia B → Inertia (λ m. A m + B m)
-  sum_inertia A B h_a hB =
+  sum_inertia A B h_a h_b =
       record {
-        lin_plus = λ m n. simp (h_a.lin_plus, hB.lin_plus, plus_assoc, plus_comm, plus_left F);
-        lin_sc = λ r m. simp (h_a.lin_sc, hB.lin_sc, sc_plus);
-        symm = λ m n. simp (pair_plus, h_a.symm m n, hB.symm m n);
+        lin_plus = λ m n. simp (h_a.lin_plus, h_b.lin_plus, plus_assoc, plus_comm, plus_left F);
+        lin_sc = λ r m. simp (h_a.lin_sc, h_b.lin_sc, sc_plus);
+        symm = λ m n. simp (pair_plus, h_a.symm m n, h_b.symm m n);
       }
     where
       open F use {plus_assoc, plus_comm, sc_plus}
@@ -245,12 +245,12 @@ module _ {Car Mot For : Type 0} (R : CommRing Car) (M : Module Car R Mot) (F : M
   pub bump_inertia :
       (A : ℕ → Op) (p : ℕ) (B : Op) → ((i : ℕ) → Inertia (A i)) → Inertia B → (i : ℕ) → Inertia (bump_op A p B i)
   unfolding bump_op
-  bump_inertia A p B h_a hB i = go (i == p)
+  bump_inertia A p B h_a h_b i = go (i == p)
     where
       open F use {plus_zer}
 
       go : (b : Bool) → Inertia (λ m. A i m + when F b (B m))
-      go true = sum_inertia (A i) B (h_a i) hB
+      go true = sum_inertia (A i) B (h_a i) h_b
       go false =
           record {
             lin_plus = λ m n. simp (plus_zer, (h_a i).lin_plus);

@@ -27,7 +27,7 @@ impl<'a, R: Ring> Rig<'a, R> {
         }
     }
 
-    // The force of joint `i`, step by step to the base: at each joint on the way, S.F is an entry of row i and of column i.
+    // The force of joint `i`, step by step to the base: at each joint on the way, S·F is an entry of row i and of column i.
     fn climb(&self, i: usize, force: Force<R>, res: &mut [R])
         requires low { 0 < i }
         requires high { i ≤ self.now.n }
