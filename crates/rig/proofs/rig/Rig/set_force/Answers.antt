@@ -1,4 +1,4 @@
-use Rattle.std.proofs.Common.{◌≡◌, ◌<◌, [], length, pos, sym, refl, ap, ◌∙◌, arith, w64, rules}
+use Rattle.std.proofs.Common.{◌≡◌, ◌-◌, ◌<◌, [], length, pos, sym, refl, ap, ◌∙◌, arith, w64, rules}
 use Rattle.std.proofs.lemmas.Int.{to_z-of_z}
 use Rattle.rig.specs.Questions.{is_joint}
 use Rattle.rig.specs.Calls.{with_force, Changed}
@@ -23,6 +23,8 @@ offset_bounds-self-i g c =
     let h = c.in-Some.ensures in
     let fit = c.args.self.now.fit in
     let l : c.in-Some.i < length c.args.self.now.slots.now = omega arith in
+    -- the slot before it is there too, so that a write there is refused for what it changes
+    let before : c.in-Some.i - 1 < length c.args.self.now.slots.now = omega arith in
     search rules
 
 pub returns : goal.returns
