@@ -37,10 +37,10 @@ impl<R: Ring> Add<Inertia<R>> for Inertia<R> {
     }
 }
 
-impl<R: Ring> Inertia<R> {
-    pub fn of_link(body: Link<R>) -> Inertia<R>
-        ensures { inertia R.Ring.value result ≡ of_link R.Ring.ring (link R.Ring.value body) }
-    {
+impl<R: Ring> From<Link<R>> for Inertia<R> {
+    ghost from_gives = { λ body r. inertia R.Ring.value r ≡ of_link R.Ring.ring (link R.Ring.value body) };
+
+    fn from(body: Link<R>) -> Inertia<R> {
         let Link {
             mass,
             first_moment: h,
@@ -76,7 +76,9 @@ impl<R: Ring> Inertia<R> {
             },
         }
     }
+}
 
+impl<R: Ring> Inertia<R> {
     // 36 products.
     pub fn apply(self, m: Motion<R>) -> Force<R>
         ensures { force R.Ring.value result ≡ applied R.Ring.ring (inertia R.Ring.value self) (motion R.Ring.value m) }
@@ -102,7 +104,7 @@ impl<R: Ring> Inertia<R> {
     fn shifted(self, r: Triple<R>) -> Inertia<R>
         ensures { inertia R.Ring.value result ≡ shifted_inertia R.Ring.ring (triple R.Ring.value r) (inertia R.Ring.value self) }
     {
-        let d = self.coupling + self.linear.full().cross_columns(r);
+        let d = self.coupling + Matrix3::from(self.linear).cross_columns(r);
         Inertia {
             angular: leaned(r, self.coupling, d, self.angular),
             coupling: d,

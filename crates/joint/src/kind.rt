@@ -4,16 +4,35 @@ ghost use Rattle.std.specs.Option.{option_map};
 ghost use Rattle.motion.specs.Vectors.{motion};
 ghost use Rattle.spatial.specs.Placements.{placement};
 ghost use Rattle.joint.specs.Joints.{axis, own};
+ghost use Rattle.joint.specs.Letters.{NamedBy};
 
 use motion::Motion;
 use ring::Ring;
 use spatial::Placement;
 
 // A revolute joint turns about its third axis, a prismatic one slides along it.
-#[derive(Clone, Copy)]
+#[derive(Clone, Copy, Debug, PartialEq, Eq)]
 pub enum JointKind {
     Revolute,
     Prismatic,
+}
+
+// A letter that names no kind of joint.
+#[derive(Clone, Copy, Debug, PartialEq, Eq)]
+pub struct UnknownKind(pub u8);
+
+impl TryFrom<u8> for JointKind {
+    type Error = UnknownKind;
+
+    ghost try_from_gives = { NamedBy };
+
+    fn try_from(letter: u8) -> Result<JointKind, UnknownKind> {
+        match letter {
+            b'R' => Ok(JointKind::Revolute),
+            b'P' => Ok(JointKind::Prismatic),
+            _ => Err(UnknownKind(letter)),
+        }
+    }
 }
 
 impl JointKind {

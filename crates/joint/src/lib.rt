@@ -5,4 +5,4 @@ mod joint;
 mod kind;
 
 pub use joint::Joint;
-pub use kind::JointKind;
+pub use kind::{JointKind, UnknownKind};

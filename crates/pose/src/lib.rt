@@ -3,4 +3,4 @@
 
 mod pose;
 
-pub use pose::Pose;
+pub use pose::{Own, Pose};

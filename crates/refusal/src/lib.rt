@@ -3,6 +3,9 @@
 
 ghost use Rattle.std.specs.Prelude.{◌≡◌};
 ghost use Rattle.refusal.specs.Refusals.{number as number_of, joint as joint_of};
+ghost use Rattle.refusal.specs.declared.Refusal.TheVariants.{NoKind};
+
+use joint::UnknownKind;
 
 #[derive(Clone, Copy, Debug, PartialEq, Eq)]
 pub enum Refusal {
@@ -41,5 +44,13 @@ impl Refusal {
             Refusal::NoPosition(joint) => joint,
             _ => 0,
         }
+    }
+}
+
+impl From<UnknownKind> for Refusal {
+    ghost from_gives = { λ _ r. r ≡ NoKind };
+
+    fn from(_letter: UnknownKind) -> Refusal {
+        Self::NoKind
     }
 }

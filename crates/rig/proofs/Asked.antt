@@ -1,8 +1,10 @@
 -- Questions that got a yes or a no.
-use Rattle.std.proofs.Common.{◌≡◌, ℕ, ◌+◌, ◌-◌, ◌<◌, ◌≤◌, Bool, true, false, cond, ◌&&◌, leb, List, [], ◌∷◌, length, get_or, set, ℤ, pos, is_some, Some, None, Ok, Err, Option, Result, sym, refl, ap, ◌∙◌, arith, length-set}
+use Rattle.std.proofs.Common.{◌≡◌, ℕ, suc, ◌+◌, ◌-◌, ◌<◌, ◌≤◌, Bool, true, false, cond, ◌&&◌, leb, List, [], ◌∷◌, length, get_or, set, ℤ, pos, is_some, Some, None, Ok, Err, Option, Result, sym, refl, ap, ◌∙◌, subst, negsuc, MatchOption, arith, length-set}
 use Rattle.std.proofs.lemmas.List.{get_or_default}
-use Rattle.std.proofs.lemmas.Bool.{le-leb, lt-leb}
-use Rattle.std.specs.Option.{option_map}
+use Rattle.std.proofs.lemmas.Bool.{le-leb, lt-leb, leb-true}
+use Rattle.std.specs.Option.{option_map, ok_or}
+use Rattle.std.specs.Result.{IsErrAnd}
+use Rattle.std.proofs.lemmas.Result.{err_from_is_err_and}
 use Rattle.ring.specs.CommRing.{CommRing}
 use Rattle.spatial.specs.Placements.{turned, turn_norm}
 use Rattle.spatial.specs.declared.placement.Placement.{Placement}
@@ -11,11 +13,12 @@ use Rattle.joint.specs.Joints.{own}
 use Rattle.rotation.specs.declared.quaternion.Quaternion.{Quaternion}
 use Rattle.joint.specs.declared.kind.JointKind.{JointKind}
 use Rattle.joint.specs.declared.kind.JointKind.TheVariants.{Revolute, Prismatic}
+use Rattle.joint.specs.Letters.{kind_of}
 use Rattle.rig.specs.Tables.{row_at}
 use Rattle.rig.specs.declared.table.Table.{Table}
 use Rattle.refusal.specs.declared.Refusal.{Refusal}
 use Rattle.refusal.specs.declared.Refusal.TheVariants.{NoSlot, NoParent, NoKind, NoRotation, NoJoint, NoPosition, ShortResult, ShortWork}
-use Rattle.rig.specs.Questions.{Question, ask, first_no, answered, has_room, is_parent, kind_of, is_joint, joint_number, is_unit, is_position, adding, positioning, showing}
+use Rattle.rig.specs.Questions.{Question, ask, first_no, answered, has_room, is_parent, is_between, is_joint, joint_number, is_unit, is_position, adding, positioning, showing}
 
 pub refuses :
     {X : Type 0} (x : X) (b : Bool) (e : Refusal) (qs : List Question) → b ≡ false
@@ -26,6 +29,59 @@ pub passes :
     {X : Type 0} (x : X) (b : Bool) (e : Refusal) (qs : List Question) → b ≡ true
     → answered x (first_no qs) ≡ answered x (first_no (ask b e ∷ qs))
 passes x b e qs h = ap (λ y. answered x (cond y (first_no qs) (Some e))) (sym h)
+
+-- what is known of a number that was found to be one of `least` to n, and of one that was not
+pub within_some :
+    {o : Option ℕ} (least n : ℕ) (z : ℤ) {i : ℕ} → o ≡ Some i
+    → MatchOption o (is_between least n z ≡ false) (λ i. (z ≡ pos i) × (least ≤ i) × (i ≤ n))
+    → (z ≡ pos i) × (least ≤ i) × (i ≤ n)
+within_some least n z e m =
+    subst (λ o. MatchOption o (is_between least n z ≡ false) (λ i. (z ≡ pos i) × (least ≤ i) × (i ≤ n))) e m
+
+pub within_none :
+    {o : Option ℕ} (least n : ℕ) (z : ℤ) → o ≡ None
+    → MatchOption o (is_between least n z ≡ false) (λ i. (z ≡ pos i) × (least ≤ i) × (i ≤ n)) → is_between least n z ≡ false
+within_none least n z e m =
+    subst (λ o. MatchOption o (is_between least n z ≡ false) (λ i. (z ≡ pos i) × (least ≤ i) × (i ≤ n))) e m
+
+pub no_joint_between : (n : ℕ) (z : ℤ) → is_between 1 n z ≡ false → is_joint n z ≡ false
+no_joint_between n (pos j) e = e
+no_joint_between n (negsuc j) e = e
+
+pub no_parent_between : (n : ℕ) (z : ℤ) → is_between 0 n z ≡ false → is_parent n z ≡ false
+no_parent_between n (pos p) e = ap (λ b. b && leb p n) (sym (le-leb 0 p (omega arith))) ∙ e
+no_parent_between n (negsuc p) e = e
+
+-- an entry at most the n-th of a list longer than n
+pub there : {X : Type 0} (xs : List X) (n i : ℕ) → i ≤ n → n < length xs → i < length xs
+there xs n i le long = omega arith
+
+-- a count that goes on no further
+pub last : (n i : ℕ) → n ≤ i → i ≤ n → n ≡ i
+last n i a b = omega arith
+
+pub counted : (i : ℕ) → i + 1 - 1 ≡ i
+counted i = omega arith
+
+-- the entry before the i-th, and any entry where none is left
+pub below : (n i m : ℕ) → 1 ≤ i → i ≤ n → n ≤ m → i - 1 < m
+below n i m low high le = omega arith
+
+pub just_below : (i : ℕ) → 1 ≤ i → i - 1 < i
+just_below i low = omega arith
+
+pub lower : (n i p : ℕ) → p < i → i ≤ n → p ≤ n
+lower n i p low high = omega arith
+
+pub left_none : (i j : ℕ) → i < 1 → i ≤ j
+left_none i j none = omega arith
+
+pub above : (i : ℕ) → 1 ≤ i → i ≡ suc (i - 1)
+above i low = omega arith
+
+-- a joint has a slot
+pub slot_there : {X : Type 0} (xs : List X) (n i : ℕ) → 1 ≤ i → i ≤ n → n ≤ length xs - 1 → i < length xs
+slot_there xs n i low high fit = omega arith
 
 pub joint_yes : (n i : ℕ) (joint : ℤ) → joint ≡ pos i → 0 < i → i ≤ n → is_joint n joint ≡ true
 joint_yes n i joint e low high =
@@ -137,25 +193,23 @@ module _ {N : Type 0} (k : CommRing N) (n : ℕ) (table : Table) (joint : ℤ) (
     pub positions : (p : Placement N) → Some p ≡ own k (row_at table (i - 1)).kind t → Positions (Ok (tt {0}))
     positions p h = passes (tt {0}) (is_position k kind t) (NoPosition (joint_number joint)) [] (told (Some p) h) ∙ past_joint
 
--- the answers of a show
-module _ (n wanted results works : ℕ) where
-  abbrev Shows : Result (Unit {0}) Refusal → Type 0
-  Shows r = r ≡ answered (tt {0}) (first_no (showing n wanted results works))
+-- the lists of a show that is taken are long enough
+pub long_enough :
+    (n wanted results works : ℕ) → ◌≡◌ {A = Result (Unit {0}) Refusal} (Ok tt) (answered tt (first_no (showing n wanted results works)))
+    → (wanted ≤ results) × (n < works)
+long_enough n wanted results works e =
+    let p = both (leb wanted results) (leb (n + 1) works) e in
+    (leb-true wanted results p.0, at_least n works (leb-true (n + 1) works p.1))
+  where
+    both :
+        (a b : Bool) → ◌≡◌ {A = Result (Unit {0}) Refusal} (Ok tt) (answered tt (cond a (cond b None (Some ShortWork)) (Some ShortResult)))
+        → (a ≡ true) × (b ≡ true)
+    both true true e = (refl, refl)
+    both true false e = cc
+    both false b e = cc
 
-  abbrev long_enough : List Question
-  long_enough = ask (leb (n + 1) works) ShortWork ∷ []
-
-  pub short_result : results < wanted → Shows (Err ShortResult)
-  short_result h = refuses (tt {0}) (leb wanted results) ShortResult long_enough (lt-leb wanted results h)
-
-  past_result : wanted ≤ results → answered (tt {0}) (first_no long_enough) ≡ answered (tt {0}) (first_no (showing n wanted results works))
-  past_result h = passes (tt {0}) (leb wanted results) ShortResult long_enough (le-leb wanted results h)
-
-  pub short_work : wanted ≤ results → works ≤ n → Shows (Err ShortWork)
-  short_work h b = refuses (tt {0}) (leb (n + 1) works) ShortWork [] (lt-leb (n + 1) works (omega arith)) ∙ past_result h
-
-  pub shows : wanted ≤ results → n < works → Shows (Ok (tt {0}))
-  shows h b = passes (tt {0}) (leb (n + 1) works) ShortWork [] (le-leb (n + 1) works (omega arith)) ∙ past_result h
+    at_least : (n works : ℕ) → n + 1 ≤ works → n < works
+    at_least n works h = omega arith
 
 -- one entry changed, the joint by its number
 pub settled :
@@ -163,3 +217,17 @@ pub settled :
     → set xs i (f (get_or xs i r)) ≡ set xs (joint_number joint) (f (get_or xs (joint_number joint) d))
 settled xs f i joint r d e l =
     ap (λ x. set xs i (f x)) (get_or_default xs i r d l) ∙ ap (λ j. set xs (joint_number j) (f (get_or xs (joint_number j) d))) (sym e)
+
+-- an entry by the joint's number
+pub set_at : {X : Type 0} (xs : List X) (x : X) (i : ℕ) (joint : ℤ) → joint ≡ pos i → set xs i x ≡ set xs (joint_number joint) x
+set_at xs x i joint e = ap (λ j. set xs (joint_number j) x) (sym e)
+
+-- what a `?` hands on where there was no value, as f
+pub handed_on :
+    {X Y : Type 0} (r : Result X Refusal) {o : Option Y} (e : Refusal) {f : Refusal} → IsErrAnd r (λ y. y ≡ f)
+    → ◌≡◌ {A = Result Y Refusal} (Err f) (ok_or o e) → o ≡ None → r ≡ Err e
+handed_on r {o} e {f} is made none =
+    let p = err_from_is_err_and r is in
+    let made_of_none : ◌≡◌ {A = Result _ Refusal} (Err f) (Err e) = made ∙ ap (λ o. ok_or o e) none in
+    let same : f ≡ e = cc in
+    p.1 ∙ ap Err (p.2 ∙ same)

@@ -1,5 +1,5 @@
 -- What a rig holds of a joint is what its row and its slot have.
-use Rattle.std.proofs.Common.{◌≡◌, ℕ, zero, suc, ◌-◌, ◌<◌, ◌≤◌, min, true, cond, map, length, get_or, pos, refl, ap, ◌∙◌, arith}
+use Rattle.std.proofs.Common.{◌≡◌, ℕ, zero, suc, ◌-◌, ◌<◌, ◌≤◌, min, true, cond, map, length, get_or, pos, refl, sym, ap, ◌∙◌, arith}
 use Rattle.std.proofs.lemmas.List.{get_or-map}
 use Rattle.ring.specs.CommRing.{CommRing}
 use Rattle.triple.specs.Triples.{triple}
@@ -10,7 +10,11 @@ use Rattle.rig.specs.declared.rig.Rig.{Rig}
 use Rattle.rig.specs.Tables.{row_at, blank_row}
 use Rattle.rig.specs.Slots.{slot, slot_joint, blank_slot}
 use Rattle.rig.specs.Questions.{is_joint}
-use Rattle.rig.specs.Holds.{held_row, held_slot, rig_holds}
+use Rattle.spatial.specs.Links.{link}
+use Rattle.joint.specs.declared.joint.Joint.{Joint}
+use Rattle.pose.specs.Poses.{pose, posed, moves, moves_kept}
+use Rattle.pose.specs.declared.pose.Pose.{Pose}
+use Rattle.rig.specs.Holds.{held_row, held_slot, rig_holds, HeldAt}
 use Rattle.rig.proofs.Asked.{joint_yes}
 
 module _ {S N : Type 0} (k : CommRing N) (v : S → N) (r : Rig S) where
@@ -63,3 +67,19 @@ module _ {S N : Type 0} (k : CommRing N) (v : S → N) (r : Rig S) where
 
   pub parent_low : (i : ℕ) → 0 < i → i ≤ r.n → (row_at r.table (i - 1)).parent < i
   parent_low i low high = let b = r.low (i - 1) (omega arith) in omega arith
+
+  pub held_at :
+      (i : ℕ) → 0 < i → i ≤ r.n → (ρ : Row) (s : Slot S) → ρ ≡ row_at r.table (i - 1) → ((d : Slot S) → s ≡ get_or r.slots.now i d)
+      → HeldAt k v (rig_holds k v r) i ρ s
+  held_at i low high ρ s row_is slot_is =
+      record {
+        joint_is = (λ j. slot_joint k (row_is j) (slot v (slot_is s j))) ∙ sym (holds_joint i low high s);
+        parent_is = ap (λ (ρ : Row). ρ.parent) row_is ∙ sym (holds_par i low high);
+        link_is = ap (λ x. link v x.link) (slot_is s) ∙ sym (holds_link i low high s);
+        rate_is = ap (λ x. v x.rate) (slot_is s) ∙ sym (holds_rate i low high s);
+        acceleration_is = ap (λ x. v x.acceleration) (slot_is s) ∙ sym (holds_acceleration i low high s);
+      }
+
+-- a pose moves as the joint that it stands for
+pub moves_as : {S N : Type 0} (k : CommRing N) (v : S → N) (p : Pose S) (j : Joint N) → posed k (pose v p) ≡ j → moves p.own ≡ j.kind
+moves_as k v p j e = sym (moves_kept v p.own) ∙ ap (λ j. j.kind) e

@@ -1,6 +1,7 @@
 -- A result list by its entries.
 use Rattle.std.proofs.Common.{◌≡◌, ℕ, zero, suc, ◌+◌, ◌-◌, ◌*◌, ◌<◌, ◌≤◌, List, [], ◌∷◌, ◌++◌, map, length, get_or, take, drop, sym, refl, ap, ◌∙◌, ap₂, suc-mul, zero-mul, arith}
-use Rattle.std.proofs.lemmas.List.{map_more, same_lists, length-drop, get_or-drop}
+use Rattle.std.proofs.lemmas.List.{map_more, same_lists, length-append, length-drop, get_or-drop}
+use Rattle.std.proofs.lemmas.Slice.{drop-append-drop}
 use Rattle.dynamics.specs.Entries.{entries, rows}
 use Rattle.rig.specs.Cells.{cell, Past}
 use Rattle.rig.specs.Shows.{Shown}
@@ -8,6 +9,9 @@ use Rattle.rig.specs.Shows.{Shown}
 some_of : {X : Type 0} (xs : List X) → 0 < length xs → X
 some_of [] l = absurd (omega arith)
 some_of (x ∷ xs) l = x
+
+pub front_fits : {X : Type 0} (xs ys : List X) (m : ℕ) → length xs ≡ m → m ≤ length (xs ++ ys)
+front_fits xs ys m same = simp length-append (omega arith)
 
 module _ {V N : Type 0} (v : V → N) where
   -- from entry m on
@@ -54,11 +58,12 @@ module _ {V N : Type 0} (v : V → N) where
       → Shown v n (entries n f) old new
   shown n f old new l same told rest = record { filled = listed n new f l told; rest = past n old new same rest }
 
-  -- what lies past the entries shown may have been left before
-  pub shown_past :
-      (m : ℕ) (numbers : List N) (old mid new : List V) → length mid ≡ length old → Past m old mid → Shown v m numbers mid new
+  -- the same where the entries shown were cleared before
+  pub shown_over :
+      (m : ℕ) (numbers : List N) (old zeros new : List V) → length zeros ≡ m → Shown v m numbers (zeros ++ drop m old) new
       → Shown v m numbers old new
-  shown_past m numbers old mid new same left s = record { filled = s.filled; rest = s.rest ∙ past m old mid same left }
+  shown_over m numbers old zeros new same s =
+      record { filled = s.filled; rest = s.rest ∙ drop-append-drop m old zeros m (omega arith) same }
 
   -- the rows of a matrix
   listed_rows :

@@ -1,5 +1,5 @@
 -- The turns of the outward walk.
-use Rattle.std.proofs.Common.{◌≡◌, ℕ, suc, ◌+◌, ◌<◌, ◌≢◌, ◌⊎◌, List, length, get_or, set, sym, ap, ◌∙◌, subst, ap₂, inl, inr, add-one, arith, get_or-set_other, get_or-set_same}
+use Rattle.std.proofs.Common.{◌≡◌, ℕ, zero, suc, ◌-◌, ◌<◌, ◌≤◌, ◌≢◌, ◌⊎◌, List, length, get_or, set, sym, ap, ◌∙◌, subst, ap₂, inl, inr, arith, get_or-set_other, get_or-set_same}
 use Rattle.std.proofs.lemmas.Bool.{cases_eq}
 use Rattle.ring.specs.CommRing.{CommRing}
 use Rattle.motion.specs.Vectors.{motion, force, motion_add, motion_scale, motion_cross, force_add, force_cross}
@@ -12,6 +12,8 @@ use Rattle.dynamics.specs.Recursions as recursions
 use Rattle.dynamics.proofs.Laws.{dynamics_laws}
 use Rattle.rig.specs.declared.work.Moving.{Moving}
 use Rattle.rig.specs.declared.work.Work.{Work}
+use Rattle.inertia.specs.Inertias.{inertia, of_link}
+use Rattle.rig.specs.Cells.{OwnInertias}
 use Rattle.rig.specs.Moves.{BaseMoves, Follows, MovesTo, with_moving}
 
 -- an entry of a list after one was set: as it was, or the one that was set
@@ -84,9 +86,19 @@ module _ {V N : Type 0} (k : CommRing N) (v : V → N) (h : Held N) where
 
   -- one turn, with the joint's number as the code has it
   pub moves_more :
-      (work : List (Work V)) (i : ℕ) (m : Moving V) (d d' : Work V) → i < h.n → i + 1 < length work → MovesTo k v h i work
-      → (p : ℕ) → p ≡ par h (i + 1) → Follows k v h (i + 1) (get_or work p d).moving m
-      → MovesTo k v h (i + 1) (set work (i + 1) (with_moving m (get_or work (i + 1) d')))
-  moves_more work i m d d' l room so_far p e f =
-      subst (λ j. j < length work → Follows k v h j (get_or work (par h j) d).moving m → MovesTo k v h j (set work j (with_moving m (get_or work j d'))))
-      (sym (add-one i)) (λ room f. moved_on work i m d d' l room so_far f) room (subst (λ q. Follows k v h (i + 1) (get_or work q d).moving m) e f)
+      (work : List (Work V)) (i : ℕ) (m : Moving V) (d d' : Work V) → 0 < i → i ≤ h.n → i < length work
+      → MovesTo k v h (i - 1) work → (p : ℕ) → p ≡ par h i → Follows k v h i (get_or work p d).moving m
+      → (to : ℕ) → to ≡ i → MovesTo k v h to (set work i (with_moving m (get_or work i d')))
+  moves_more work zero m d d' low le room so_far p e f to is = absurd (omega arith)
+  moves_more work (suc j) m d d' low le room so_far p e f to is =
+      let here : suc j - 1 ≡ j = omega arith in
+      subst (λ a. MovesTo k v h a (set work (suc j) (with_moving m (get_or work (suc j) d')))) (sym is)
+      (moved_on work j m d d' le room (subst (λ a. MovesTo k v h a work) here so_far) (subst (λ q. Follows k v h (suc j) (get_or work q d).moving m) e f))
+
+  -- the same for the inertias of the joints' own links
+  pub own_more :
+      (work : List (Work V)) (i : ℕ) (w : Work V) → i < length work → inertia v w.inertia ≡ of_link k (h.links i)
+      → OwnInertias k v h (i - 1) work → (m : ℕ) → m ≤ i → OwnInertias k v h m (set work i w)
+  own_more work i w room here so_far m le j l d =
+      set_cases (λ j w. inertia v w.inertia ≡ of_link k (h.links j)) work i w room here (suc j) d
+      (λ ne. so_far j (omega arith) d)

@@ -8,6 +8,7 @@ use Rattle.triple.specs.declared.triple.Triple.{Triple}
 use Rattle.spatial.specs.declared.link.Link.{Link}
 use Rattle.rotation.specs.Rotations.{quaternion, rotation}
 use Rattle.joint.specs.Joints.{own}
+use Rattle.joint.specs.Letters.{kind_of}
 use Rattle.pose.specs.Poses.{own_at}
 use Rattle.joint.specs.declared.kind.JointKind.{JointKind}
 use Rattle.rotation.specs.declared.quaternion.Quaternion.{Quaternion}
@@ -15,7 +16,6 @@ use Rattle.dynamics.specs.Given.{placed}
 use Rattle.rig.specs.declared.slot.Slot.{Slot}
 use Rattle.rig.specs.declared.rig.Rig.{Rig}
 use Rattle.rig.specs.Tables.{row, row_at, with_row}
-use Rattle.rig.specs.Questions.{kind_of}
 use Rattle.rig.specs.Slots.{slot, slot_joint, slot_given}
 
 -- a slot with one thing set
@@ -99,6 +99,14 @@ module _ {S : Type 0} where
   -- slot j changed by f, and no other, in the same table of as many joints
   pub record Changed (s t : Rig S) (j : ℕ) (f : Slot S → Slot S) : Type 0 where
     pub slots : (d : Slot S) → t.slots.now ≡ slice_set s.slots.now j (f (slice_index_or s.slots.now j d))
+    pub table : t.table ≡ s.table
+    pub n : t.n ≡ s.n
+
+  -- slot j changed to one that P says of the old one, and no other
+  pub record ChangedBy (s t : Rig S) (j : ℕ) (P : Slot S → Slot S → Type 0) : Type 0 where
+    pub new_slot : Slot S
+    pub says : (d : Slot S) → P (slice_index_or s.slots.now j d) new_slot
+    pub slots : t.slots.now ≡ slice_set s.slots.now j new_slot
     pub table : t.table ≡ s.table
     pub n : t.n ≡ s.n
 

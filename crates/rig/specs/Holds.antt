@@ -1,7 +1,8 @@
 -- What a rig holds: what the recursions take.
-use Rattle.std.specs.Prelude.{ℕ, ◌-◌, cond, List, map, get_or, pos, slice_index_or}
+use Rattle.std.specs.Prelude.{◌≡◌, ℕ, ◌-◌, cond, List, map, get_or, pos, slice_index_or}
 use Rattle.ring.specs.CommRing.{CommRing}
-use Rattle.dynamics.specs.Held.{Held}
+use Rattle.spatial.specs.Links.{link}
+use Rattle.dynamics.specs.Held.{Held, par}
 use Rattle.rig.specs.declared.slot.Slot.{Slot}
 use Rattle.rig.specs.declared.table.Row.{Row}
 use Rattle.rig.specs.declared.table.Table.{Table}
@@ -36,3 +37,11 @@ module _ {N : Type 0} (k : CommRing N) (n : ℕ) (table : Table) (slots : List (
 -- what a rig holds, by the numbers that its values stand for
 unfoldable pub rig_holds : {S N : Type 0} → CommRing N → (S → N) → Rig S → Held N
 rig_holds k v r = holds k r.n r.table (map (slot v) r.slots.now)
+
+-- joint i of h is the one with this row and this slot
+pub record HeldAt {S N : Type 0} (k : CommRing N) (v : S → N) (h : Held N) (i : ℕ) (r : Row) (s : Slot S) : Type 0 where
+  pub joint_is : slot_joint k r (slot v s) ≡ h.joints i
+  pub parent_is : r.parent ≡ par h i
+  pub link_is : link v s.link ≡ h.links i
+  pub rate_is : v s.rate ≡ h.rate i
+  pub acceleration_is : v s.acceleration ≡ h.acceleration i

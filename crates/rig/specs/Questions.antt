@@ -1,9 +1,10 @@
 -- The questions that a call puts, in their order. The first no decides: its refusal is the answer.
-use Rattle.std.specs.Prelude.{ℕ, ◌+◌, ◌-◌, Bool, true, false, cond, ◌&&◌, List, [], ◌∷◌, ℤ, pos, negsuc, is_some, Some, None, Ok, Err, Option, Result, ◌==◌, nat_le}
+use Rattle.std.specs.Prelude.{ℕ, ◌+◌, ◌-◌, Bool, true, false, cond, ◌&&◌, List, [], ◌∷◌, ℤ, pos, negsuc, is_some, Some, None, Ok, Err, Option, Result, nat_le}
 use Rattle.ring.specs.CommRing.{CommRing}
 use Rattle.spatial.specs.Placements.{turn_norm}
 use Rattle.rotation.specs.Rotations.{norm}
 use Rattle.rotation.specs.declared.quaternion.Quaternion.{Quaternion}
+use Rattle.joint.specs.Letters.{kind_of}
 use Rattle.joint.specs.declared.kind.JointKind.{JointKind}
 use Rattle.joint.specs.declared.kind.JointKind.TheVariants.{Revolute, Prismatic}
 use Rattle.refusal.specs.declared.Refusal.{Refusal}
@@ -36,9 +37,10 @@ abbrev pub is_parent : ℕ → ℤ → Bool
 is_parent n (pos p) = nat_le p n
 is_parent n (negsuc p) = false
 
--- 3: is the letter R or P?
-abbrev pub kind_of : ℕ → Option JointKind
-kind_of letter = cond (letter == 82) (Some Revolute) (cond (letter == 80) (Some Prismatic) None)
+-- is it from `least` to n?
+abbrev pub is_between : ℕ → ℕ → ℤ → Bool
+is_between least n (pos j) = nat_le least j && nat_le j n
+is_between least n (negsuc j) = false
 
 -- 5: is it from 1 to n?
 abbrev pub is_joint : ℕ → ℤ → Bool

@@ -5,6 +5,7 @@ ghost use Rattle.rig.specs.Tables.{Low};
 use crate::slot::Slot;
 use crate::table::Table;
 
+mod asking;
 mod making;
 mod matrix;
 mod reading;

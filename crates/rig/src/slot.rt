@@ -1,12 +1,15 @@
 // What the caller lends: a slot for the base and one for each joint.
 ghost use Rattle.std.specs.Prelude.{◌≡◌};
+ghost use Rattle.pose.specs.Poses.{moves, own_pose, own_at, placed_so};
 ghost use Rattle.rig.specs.Slots.{slot, blank_slot};
 
 use joint::JointKind;
+use pose::Own;
 use ring::Ring;
 use rotation::Quaternion;
 use spatial::{Link, Placement};
 use symmetric::Symmetric3;
+use third_axis::{Slide, Turn};
 use triple::Triple;
 
 // The numbers of a joint as given, with its state, and what was worked out from them when they were given:
@@ -27,6 +30,22 @@ pub struct Slot<R> {
 }
 
 impl<R: Ring> Slot<R> {
+    // The own placement of the joint whose slot this is, by its kind.
+    pub(crate) fn own(&self, kind: JointKind) -> Own<R>
+        ensures moves { moves result ≡ kind }
+        ensures placed { placed_so R.Ring.ring (own_pose R.Ring.value result) ≡ own_at R.Ring.ring kind (R.Ring.value self.now.cosine) (R.Ring.value self.now.sine) (R.Ring.value self.now.position) }
+    {
+        match kind {
+            JointKind::Revolute => Own::Turn(Turn {
+                cosine: self.cosine,
+                sine: self.sine,
+            }),
+            JointKind::Prismatic => Own::Slide(Slide {
+                length: self.position,
+            }),
+        }
+    }
+
     // A slot to lend: everything zero, and no rotation.
     pub fn blank() -> Slot<R>
         ensures { slot R.Ring.value result ≡ blank_slot R.Ring.ring }

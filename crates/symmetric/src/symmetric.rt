@@ -37,35 +37,37 @@ impl<R: Ring> Add<Symmetric3<R>> for Symmetric3<R> {
     }
 }
 
-impl<R: Ring> Symmetric3<R> {
-    // All nine entries.
-    pub fn full(self) -> Matrix3<R>
-        ensures { matrix R.Ring.value result ≡ full (symmetric R.Ring.value self) }
-    {
+// All nine entries.
+impl<R: Ring> From<Symmetric3<R>> for Matrix3<R> {
+    ghost from_gives = { λ s r. matrix R.Ring.value r ≡ full (symmetric R.Ring.value s) };
+
+    fn from(s: Symmetric3<R>) -> Matrix3<R> {
         Matrix3 {
             x: Triple {
-                x: self.xx,
-                y: self.xy,
-                z: self.xz,
+                x: s.xx,
+                y: s.xy,
+                z: s.xz,
             },
             y: Triple {
-                x: self.xy,
-                y: self.yy,
-                z: self.yz,
+                x: s.xy,
+                y: s.yy,
+                z: s.yz,
             },
             z: Triple {
-                x: self.xz,
-                y: self.yz,
-                z: self.zz,
+                x: s.xz,
+                y: s.yz,
+                z: s.zz,
             },
         }
     }
+}
 
+impl<R: Ring> Symmetric3<R> {
     // 9 products.
     pub fn apply(self, a: Triple<R>) -> Triple<R>
         ensures { triple R.Ring.value result ≡ times (ops R.Ring.ring) (full (symmetric R.Ring.value self)) (triple R.Ring.value a) }
     {
-        self.full().apply(a)
+        Matrix3::from(self).apply(a)
     }
 
     // E' S E, where this is S: 45 products.

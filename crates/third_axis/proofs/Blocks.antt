@@ -151,18 +151,18 @@ module _ {N : Type 0} (k : CommRing N) where
         linear = symmetric_kept q a.linear i;
       })
 
-  -- at the products that the code works out once
+  -- at the products that the code works out once, with the opposite turn's cosine d and its sine b
   pub turn_carried_is :
-      (c s : N) (a : Inertia N) {b p q n : N} {x z : Symmetric3 N} {y : Matrix3 N}
-      → b ≡ k.neg s → p ≡ k.mul c c → q ≡ k.mul c b → n ≡ k.add (k.mul b b) p
-      → x ≡ turned_symmetric (ops k) c b p q n a.angular
-      → y ≡ turned_matrix (ops k) c b p q n a.coupling
-      → z ≡ turned_symmetric (ops k) c b p q n a.linear
+      (c s : N) (a : Inertia N) {d b p q n : N} {x z : Symmetric3 N} {y : Matrix3 N}
+      → d ≡ c → b ≡ k.neg s → p ≡ k.mul c c → q ≡ k.mul c b → n ≡ k.add (k.mul b b) p
+      → x ≡ turned_symmetric (ops k) d b p q n a.angular
+      → y ≡ turned_matrix (ops k) d b p q n a.coupling
+      → z ≡ turned_symmetric (ops k) d b p q n a.linear
       → ◌≡◌ {A = Inertia N} (record { angular = x; coupling = y; linear = z }) (carried k (rotated k c s) a)
-  turn_carried_is c s a {b} {p} {q} {n} eb ep eq en ex ey ez =
+  turn_carried_is c s a {d} {b} {p} {q} {n} ed eb ep eq en ex ey ez =
       let fq : q ≡ k.mul c (k.neg s) = eq ∙ ap (k.mul c) eb in
       let fn : n ≡ k.add (k.mul (k.neg s) (k.neg s)) (k.mul c c) = en ∙ (λ i. k.add (k.mul (eb i) (eb i)) (ep i)) in
       turned_inertia_is c s a
-      (ex ∙ (λ i. turned_symmetric (ops k) c (eb i) (ep i) (fq i) (fn i) a.angular))
-      (ey ∙ (λ i. turned_matrix (ops k) c (eb i) (ep i) (fq i) (fn i) a.coupling))
-      (ez ∙ (λ i. turned_symmetric (ops k) c (eb i) (ep i) (fq i) (fn i) a.linear))
+      (ex ∙ (λ i. turned_symmetric (ops k) (ed i) (eb i) (ep i) (fq i) (fn i) a.angular))
+      (ey ∙ (λ i. turned_matrix (ops k) (ed i) (eb i) (ep i) (fq i) (fn i) a.coupling))
+      (ez ∙ (λ i. turned_symmetric (ops k) (ed i) (eb i) (ep i) (fq i) (fn i) a.linear))

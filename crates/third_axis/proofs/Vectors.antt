@@ -48,12 +48,14 @@ module _ {N : Type 0} (k : CommRing N) where
       (inward_by terms (rotated_by terms (var 6) (var 7)) (force_vars 0))
       refl
 
+  -- by the opposite turn, whose cosine is b and whose sine is t
   pub turned_force_is :
-      (c s : N) (w : Force N) {t : N} {a b : Triple N}
-      → t ≡ k.neg s → a ≡ turned3 (ops k) c t w.moment → b ≡ turned3 (ops k) c t w.linear
-      → ◌≡◌ {A = Force N} (record { moment = a; linear = b }) (inward k (rotated k c s) w)
-  turned_force_is c s w e p q =
-      (λ i. record { moment = (p ∙ ap (λ t. turned3 (ops k) c t w.moment) e) i; linear = (q ∙ ap (λ t. turned3 (ops k) c t w.linear) e) i })
+      (c s : N) (w : Force N) {b t : N} {x y : Triple N}
+      → b ≡ c → t ≡ k.neg s → x ≡ turned3 (ops k) b t w.moment → y ≡ turned3 (ops k) b t w.linear
+      → ◌≡◌ {A = Force N} (record { moment = x; linear = y }) (inward k (rotated k c s) w)
+  turned_force_is c s w {b} {t} d e p q =
+      let back : (a : Triple N) → turned3 (ops k) b t a ≡ turned3 (ops k) c (k.neg s) a = λ a. λ i. turned3 (ops k) (d i) (e i) a in
+      (λ i. record { moment = (p ∙ back w.moment) i; linear = (q ∙ back w.linear) i })
       ∙ turn_inward c s w
 
   slide_outward : (q : N) (m : Motion N) → slid_motion (ops k) q m ≡ outward k (slid k q) m

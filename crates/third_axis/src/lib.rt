@@ -4,5 +4,5 @@
 mod slide;
 mod turn;
 
-pub use slide::{slide_carried, slide_inward, slide_outward};
-pub use turn::{turn_carried, turn_inward, turn_outward};
+pub use slide::Slide;
+pub use turn::Turn;

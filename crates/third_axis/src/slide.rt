@@ -1,4 +1,4 @@
-// A slide along the third axis, by its length q.
+// A slide along the third axis, by its length.
 ghost use Rattle.std.specs.Prelude.{◌≡◌};
 ghost use Rattle.triple.specs.Ops.{ops};
 ghost use Rattle.triple.specs.Triples.{triple};
@@ -16,6 +16,45 @@ use ring::Ring;
 use symmetric::Symmetric3;
 use triple::Triple;
 
+#[derive(Clone, Copy)]
+pub struct Slide<R> {
+    pub length: R,
+}
+
+impl<R: Ring> Slide<R> {
+    // A motion, carried into the slid frame: 2 products.
+    pub fn outward(self, m: Motion<R>) -> Motion<R>
+        ensures { motion R.Ring.value result ≡ outward R.Ring.ring (slid R.Ring.ring (R.Ring.value self.length)) (motion R.Ring.value m) }
+    {
+        Motion {
+            angular: m.angular,
+            linear: moved(self.length, m.angular, m.linear),
+        }
+    }
+
+    // A force, carried back out of the slid frame, so by the opposite length: 2 products.
+    pub fn inward(self, w: Force<R>) -> Force<R>
+        ensures { force R.Ring.value result ≡ inward R.Ring.ring (slid R.Ring.ring (R.Ring.value self.length)) (force R.Ring.value w) }
+    {
+        Force {
+            moment: moved(self.length.neg(), w.linear, w.moment),
+            linear: w.linear,
+        }
+    }
+
+    // An inertia, carried back out of the slid frame: 10 products.
+    pub fn carried(self, a: Inertia<R>) -> Inertia<R>
+        ensures { inertia R.Ring.value result ≡ carried R.Ring.ring (slid R.Ring.ring (R.Ring.value self.length)) (inertia R.Ring.value a) }
+    {
+        let coupling = slid_coupling(self.length, a.coupling, a.linear);
+        Inertia {
+            angular: slid_angular(self.length, a.coupling, coupling, a.angular),
+            coupling,
+            linear: a.linear,
+        }
+    }
+}
+
 // a - (0, 0, q) × b
 fn moved<R: Ring>(q: R, b: Triple<R>, a: Triple<R>) -> Triple<R>
     ensures { triple R.Ring.value result ≡ moved3 (ops R.Ring.ring) (R.Ring.value q) (triple R.Ring.value b) (triple R.Ring.value a) }
@@ -24,26 +63,6 @@ fn moved<R: Ring>(q: R, b: Triple<R>, a: Triple<R>) -> Triple<R>
         x: q.mul_add(b.y, a.x),
         y: a.y.sub(q.mul(b.x)),
         z: a.z,
-    }
-}
-
-// A motion, carried into the slid frame: 2 products.
-pub fn slide_outward<R: Ring>(q: R, m: Motion<R>) -> Motion<R>
-    ensures { motion R.Ring.value result ≡ outward R.Ring.ring (slid R.Ring.ring (R.Ring.value q)) (motion R.Ring.value m) }
-{
-    Motion {
-        angular: m.angular,
-        linear: moved(q, m.angular, m.linear),
-    }
-}
-
-// A force, carried back out of the slid frame, so by the opposite length: 2 products.
-pub fn slide_inward<R: Ring>(q: R, w: Force<R>) -> Force<R>
-    ensures { force R.Ring.value result ≡ inward R.Ring.ring (slid R.Ring.ring (R.Ring.value q)) (force R.Ring.value w) }
-{
-    Force {
-        moment: moved(q.neg(), w.linear, w.moment),
-        linear: w.linear,
     }
 }
 
@@ -84,17 +103,5 @@ fn slid_angular<R: Ring>(q: R, c: Matrix3<R>, d: Matrix3<R>, s: Symmetric3<R>) -
         yy: q.mul_add(cy.x.add(dy.x), s.yy),
         yz: q.mul_add(dz.x, s.yz),
         zz: s.zz,
-    }
-}
-
-// An inertia, carried back out of the slid frame: 10 products.
-pub fn slide_carried<R: Ring>(q: R, a: Inertia<R>) -> Inertia<R>
-    ensures { inertia R.Ring.value result ≡ carried R.Ring.ring (slid R.Ring.ring (R.Ring.value q)) (inertia R.Ring.value a) }
-{
-    let coupling = slid_coupling(q, a.coupling, a.linear);
-    Inertia {
-        angular: slid_angular(q, a.coupling, coupling, a.angular),
-        coupling,
-        linear: a.linear,
     }
 }

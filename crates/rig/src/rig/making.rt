@@ -1,12 +1,13 @@
 // Making a rig, and adding joints to it.
-ghost use Rattle.std.specs.Prelude.{◌≡◌, ℕ, ◌+◌, ◌≤◌, false, length, replicate, pos, Some, Ok, Err, MatchOption};
+ghost use Rattle.std.specs.Prelude.{◌≡◌, ℕ, ◌+◌, ◌<◌, ◌≤◌, length, replicate, slice_set, Some, Ok, Err};
 ghost use Rattle.linear.specs.Matrices.{matrix};
 ghost use Rattle.rotation.specs.Rotations.{quaternion, rotation as rotation_of};
-ghost use Rattle.rig.specs.Tables.{blank_row};
-ghost use Rattle.rig.specs.Questions.{first_no, answered, adding, is_parent, kind_of as kind_told};
+ghost use Rattle.rig.specs.Tables.{blank_row, with_row};
+ghost use Rattle.rig.specs.Questions.{first_no, answered, adding};
 ghost use Rattle.rig.specs.Calls.{Begun, Fresh, Added, TrueToGiven};
 
 use crate::rig::Rig;
+use crate::rig::asking::within;
 use crate::slot::Slot;
 use crate::table::{Row, Table};
 use joint::JointKind;
@@ -58,42 +59,29 @@ impl<'a, R: Ring> Rig<'a, R> {
         if self.n >= 24 || self.n + 1 >= self.slots.len() {
             return Err(Refusal::NoSlot);
         }
-        let Some(parent) = parent_number(self.n, parent) else {
-            return Err(Refusal::NoParent);
-        };
-        let Some(kind) = kind_of(letter) else {
-            return Err(Refusal::NoKind);
-        };
-        let Some(rotation) = turn.rotation() else {
-            return Err(Refusal::NoRotation);
-        };
+        let parent = within(parent, 0, self.n).ok_or(Refusal::NoParent)?;
+        let kind = JointKind::try_from(letter)?;
+        let rotation = turn.rotation().ok_or(Refusal::NoRotation)?;
+        let slot = at_rest(kind, Placement { rotation, offset }, turn, link);
+        Ok(self.push(Row { parent, kind }, slot))
+    }
+
+    // The next joint's row and slot, where there is room for both.
+    fn push(&mut self, row: Row, slot: Slot<R>) -> usize
+        requires few { self.old.n < 24 }
+        requires fit { self.old.n + 1 < length self.old.slots.now }
+        requires low { row.parent ≤ self.old.n }
+        ensures number { result ≡ self.old.n + 1 }
+        ensures n { self.new.n ≡ self.old.n + 1 }
+        ensures table { self.new.table ≡ with_row self.old.table self.old.n row }
+        ensures slots { self.new.slots.now ≡ slice_set self.old.slots.now (self.old.n + 1) slot }
+        ensures lent { self.new.slots.ghost_name ≡ self.old.slots.ghost_name }
+    {
         let k = self.n;
-        self.slots[k + 1] = at_rest(kind, Placement { rotation, offset }, turn, link);
-        self.table.rows[k] = Row { parent, kind };
+        self.slots[k + 1] = slot;
+        self.table.rows[k] = row;
         self.n = k + 1;
-        Ok(k + 1)
-    }
-}
-
-// The number of a parent, in a rig of `n` joints.
-fn parent_number(n: usize, parent: i64) -> Option<usize>
-    ensures { MatchOption result (is_parent n parent ≡ false) (λ p. (parent ≡ pos p) × (p ≤ n)) }
-{
-    if parent < 0 {
-        return None;
-    }
-    let number = parent as usize;
-    if number <= n { Some(number) } else { None }
-}
-
-// The kind of joint that a letter names.
-fn kind_of(letter: u8) -> Option<JointKind>
-    ensures { result ≡ kind_told letter }
-{
-    match letter {
-        b'R' => Some(JointKind::Revolute),
-        b'P' => Some(JointKind::Prismatic),
-        _ => None,
+        self.n
     }
 }
 

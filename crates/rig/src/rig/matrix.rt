@@ -20,17 +20,14 @@ impl<'a, R: Ring> Rig<'a, R> {
         requires { self.now.n < length work.old }
         ensures { OwnInertias R.Ring.ring R.Ring.value (rig_holds R.Ring.ring R.Ring.value self.now) self.now.n work.new }
     {
-        for k in 0..self.n {
-            let i = k + 1;
-            let link = self.slot(i).link;
-            work[i].inertia = Inertia::of_link(link);
+        for i in 1..=self.n {
+            work[i].inertia = Inertia::from(self.joint(i).slot.link);
         }
     }
 
     // The force of joint `i`, step by step to the base: at each joint on the way, S·F is an entry of row i and of column i.
     fn climb(&self, i: usize, force: Force<R>, res: &mut [R])
-        requires low { 0 < i }
-        requires high { i ≤ self.now.n }
+        requires joint { (0 < i) × (i ≤ self.now.n) }
         requires room { self.now.n * self.now.n ≤ length res.old }
         requires clear { (b : ℕ) → b ≤ i - 1 → Both R.Ring.value self.now.n res.old (i - 1) b R.Ring.ring.zero }
         ensures { Climbs R.Ring.ring R.Ring.value (rig_holds R.Ring.ring R.Ring.value self.now) self.now.n (i - 1) force res.old res.new }
@@ -38,13 +35,14 @@ impl<'a, R: Ring> Rig<'a, R> {
         let mut j = i;
         let mut f = force;
         'steps: loop {
-            let joint = self.pose(j);
-            put_both(res, self.n, i - 1, j - 1, joint.component(f));
-            let p = self.parent(j);
+            let joint = self.joint(j);
+            let pose = joint.pose();
+            put_both(res, self.n, i - 1, j - 1, pose.component(f));
+            let p = joint.row.parent;
             if p == 0 {
                 return;
             }
-            f = joint.inward(f);
+            f = pose.inward(f);
             j = p;
         }
     }
@@ -57,14 +55,14 @@ impl<'a, R: Ring> Rig<'a, R> {
         requires clear { Zeros R.Ring.ring R.Ring.value (self.now.n * self.now.n) res.old }
         ensures { Shown R.Ring.value (self.now.n * self.now.n) (rows self.now.n self.now.n (masses R.Ring.ring (rig_holds R.Ring.ring R.Ring.value self.now))) res.old res.new }
     {
-        for k in (0..self.n).rev() {
-            let i = k + 1;
-            let joint = self.pose(i);
+        for i in (1..=self.n).rev() {
+            let joint = self.joint(i);
+            let pose = joint.pose();
             let inertia = work[i].inertia;
-            self.climb(i, joint.column(inertia), res);
-            let p = self.parent(i);
+            self.climb(i, pose.column(inertia), res);
+            let p = joint.row.parent;
             if p > 0 {
-                let sum = work[p].inertia + joint.carried(inertia);
+                let sum = work[p].inertia + pose.carried(inertia);
                 work[p].inertia = sum;
             }
         }
@@ -76,28 +74,21 @@ impl<'a, R: Ring> Rig<'a, R> {
         ensures shown { elim result [ Ok _ ↦ Shown R.Ring.value (self.now.n * self.now.n) (rows self.now.n self.now.n (masses R.Ring.ring (rig_holds R.Ring.ring R.Ring.value self.now))) res.old res.new | Err _ ↦ (res.new ≡ res.old) × (work.new ≡ work.old) ] }
     {
         let entries = self.n * self.n;
-        if res.len() < entries {
-            return Err(Refusal::ShortResult);
-        }
-        if work.len() <= self.n {
-            return Err(Refusal::ShortWork);
-        }
-        clear(res, entries);
+        self.check_lists(entries, res, work)?;
+        clear(&mut res[..entries]);
         self.own_inertias(work);
         self.composites(res, work);
         Ok(())
     }
 }
 
-// Zero into the first `m` entries.
-fn clear<R: Ring>(list: &mut [R], m: usize)
-    requires { m ≤ length list.old }
-    ensures zeros { Zeros R.Ring.ring R.Ring.value m list.new }
-    ensures past { Past m list.old list.new }
+// Zero into every entry.
+fn clear<R: Ring>(list: &mut [R])
+    ensures { Zeros R.Ring.ring R.Ring.value (length list.old) list.new }
 {
     let zero = R::zero();
-    for i in 0..m {
-        list[i] = zero;
+    for entry in list {
+        *entry = zero;
     }
 }
 

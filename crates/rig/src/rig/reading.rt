@@ -1,14 +1,21 @@
 // Reading what a rig holds, joint by joint.
-ghost use Rattle.std.specs.Prelude.{◌≡◌, ℕ, ◌+◌, ◌-◌, ◌<◌, ◌≤◌, slice_index_or};
+ghost use Rattle.std.specs.Prelude.{◌≡◌, ℕ, ◌-◌, ◌<◌, ◌≤◌};
 ghost use Rattle.pose.specs.Poses.{pose, posed};
-ghost use Rattle.dynamics.specs.Held.{par};
-ghost use Rattle.rig.specs.Holds.{rig_holds};
-ghost use Rattle.rig.specs.declared.slot.Slot.{Slot as Slots};
+ghost use Rattle.rig.specs.Slots.{slot, slot_joint};
+ghost use Rattle.rig.specs.Holds.{HeldAt, rig_holds};
 
 use crate::rig::Rig;
 use crate::slot::Slot;
+use crate::table::Row;
 use pose::Pose;
 use ring::Ring;
+
+// A joint as a rig holds it.
+#[derive(Clone, Copy)]
+pub(crate) struct HeldJoint<'r, R> {
+    pub(crate) row: Row,
+    pub(crate) slot: &'r Slot<R>,
+}
 
 impl<'a, R: Ring> Rig<'a, R> {
     // How many joints there are.
@@ -18,36 +25,27 @@ impl<'a, R: Ring> Rig<'a, R> {
         self.n
     }
 
-    // The slot of joint `i`.
-    pub(crate) fn slot(&self, i: usize) -> &Slot<R>
+    pub(crate) fn joint(&self, i: usize) -> HeldJoint<'_, R>
         requires { (0 < i) × (i ≤ self.now.n) }
-        ensures { (d : Slots R) → result.now ≡ slice_index_or self.now.slots.now i d }
+        ensures is { HeldAt R.Ring.ring R.Ring.value (rig_holds R.Ring.ring R.Ring.value self.now) i result.row result.slot.now }
+        ensures low { result.row.parent < i }
     {
         let slots = &*self.slots;
-        &slots[i]
-    }
-
-    // Xᵢ and S: joint `i` in its pose.
-    pub(crate) fn pose(&self, i: usize) -> Pose<R>
-        requires { (0 < i) × (i ≤ self.now.n) }
-        ensures { posed R.Ring.ring (pose R.Ring.value result) ≡ (rig_holds R.Ring.ring R.Ring.value self.now).joints i }
-    {
-        let slot = self.slot(i);
-        Pose {
-            kind: self.table.rows[i - 1].kind,
-            fixed: slot.fixed,
-            cosine: slot.cosine,
-            sine: slot.sine,
-            slide: slot.position,
+        HeldJoint {
+            row: self.table.rows[i - 1],
+            slot: &slots[i],
         }
     }
+}
 
-    // The parent of joint `i`.
-    pub(crate) fn parent(&self, i: usize) -> usize
-        requires { (0 < i) × (i ≤ self.now.n) }
-        ensures is { result ≡ par (rig_holds R.Ring.ring R.Ring.value self.now) i }
-        ensures low { result < i }
+impl<'r, R: Ring> HeldJoint<'r, R> {
+    // X and S.
+    pub(crate) fn pose(self) -> Pose<R>
+        ensures { posed R.Ring.ring (pose R.Ring.value result) ≡ slot_joint R.Ring.ring self.entry.row (slot R.Ring.value self.entry.slot.now) }
     {
-        self.table.rows[i - 1].parent
+        Pose {
+            fixed: self.slot.fixed,
+            own: self.slot.own(self.row.kind),
+        }
     }
 }

@@ -1,9 +1,11 @@
 // Setting what a rig holds.
-ghost use Rattle.std.specs.Prelude.{◌≡◌, ℕ, ◌+◌, ◌-◌, ◌<◌, ◌≤◌, false, length, pos, Ok, Err, MatchOption};
-ghost use Rattle.rig.specs.Questions.{first_no, answered, weighting, setting, positioning, is_joint, joint_number};
-ghost use Rattle.rig.specs.Calls.{Changed, Positioned, TrueToGiven, with_gravity, with_rate, with_acceleration, with_force};
+ghost use Rattle.std.specs.Prelude.{◌≡◌, ℕ, ◌+◌, ◌-◌, ◌<◌, ◌≤◌, length, Ok, Err};
+ghost use Rattle.std.specs.Fn.{FnOnceReturnsAtMut};
+ghost use Rattle.rig.specs.Questions.{first_no, answered, weighting, setting, positioning, joint_number};
+ghost use Rattle.rig.specs.Calls.{Changed, ChangedBy, Positioned, TrueToGiven, with_gravity, with_rate, with_acceleration, with_force};
 
 use crate::rig::Rig;
+use crate::rig::asking::within;
 use crate::slot::Slot;
 use refusal::Refusal;
 use ring::Ring;
@@ -30,13 +32,9 @@ impl<'a, R: Ring> Rig<'a, R> {
         ensures keeps { TrueToGiven R.Ring.ring R.Ring.value self.old → TrueToGiven R.Ring.ring R.Ring.value self.new }
         ensures lent { self.new.slots.ghost_name ≡ self.old.slots.ghost_name }
     {
-        let Some(i) = number_of(self.n, joint) else {
-            return Err(Refusal::NoJoint);
-        };
+        let i = within(joint, 1, self.n).ok_or(Refusal::NoJoint)?;
         let kind = self.table.rows[i - 1].kind;
-        let Some(own) = kind.placement(position) else {
-            return Err(Refusal::NoPosition(i));
-        };
+        let own = kind.placement(position).ok_or(Refusal::NoPosition(i))?;
         let slot = self.slots[i];
         self.slots[i] = Slot {
             position,
@@ -53,11 +51,7 @@ impl<'a, R: Ring> Rig<'a, R> {
         ensures keeps { TrueToGiven R.Ring.ring R.Ring.value self.old → TrueToGiven R.Ring.ring R.Ring.value self.new }
         ensures lent { self.new.slots.ghost_name ≡ self.old.slots.ghost_name }
     {
-        let Some(i) = number_of(self.n, joint) else {
-            return Err(Refusal::NoJoint);
-        };
-        self.slots[i].rate = rate;
-        Ok(())
+        self.change(joint, |slot| slot.rate = rate)
     }
 
     pub fn set_acceleration(&mut self, joint: i64, acceleration: R) -> Result<(), Refusal>
@@ -66,11 +60,7 @@ impl<'a, R: Ring> Rig<'a, R> {
         ensures keeps { TrueToGiven R.Ring.ring R.Ring.value self.old → TrueToGiven R.Ring.ring R.Ring.value self.new }
         ensures lent { self.new.slots.ghost_name ≡ self.old.slots.ghost_name }
     {
-        let Some(i) = number_of(self.n, joint) else {
-            return Err(Refusal::NoJoint);
-        };
-        self.slots[i].acceleration = acceleration;
-        Ok(())
+        self.change(joint, |slot| slot.acceleration = acceleration)
     }
 
     // The force along or about the joint's axis: its torque, for a revolute joint.
@@ -80,21 +70,19 @@ impl<'a, R: Ring> Rig<'a, R> {
         ensures keeps { TrueToGiven R.Ring.ring R.Ring.value self.old → TrueToGiven R.Ring.ring R.Ring.value self.new }
         ensures lent { self.new.slots.ghost_name ≡ self.old.slots.ghost_name }
     {
-        let Some(i) = number_of(self.n, joint) else {
-            return Err(Refusal::NoJoint);
-        };
-        self.slots[i].force = force;
+        self.change(joint, |slot| slot.force = force)
+    }
+
+    // The slot of one joint changed.
+    fn change<F: FnOnce(&mut Slot<R>)>(&mut self, joint: i64, change: F) -> Result<(), Refusal>
+        requires { F.IsAlwaysCallable change }
+        ensures answer { result ≡ answered tt (first_no (setting self.old.n joint)) }
+        ensures after { elim result [ Ok _ ↦ ChangedBy self.old self.new (joint_number joint) (λ s t. FnOnceReturnsAtMut F.FnOnce change s tt t) | Err _ ↦ self.new ≡ self.old ] }
+        ensures lent { self.new.slots.ghost_name ≡ self.old.slots.ghost_name }
+    {
+        let i = within(joint, 1, self.n).ok_or(Refusal::NoJoint)?;
+        let slots = &mut *self.slots;
+        change(&mut slots[i]);
         Ok(())
     }
-}
-
-// The number of a joint, in a rig of `n` joints.
-fn number_of(n: usize, joint: i64) -> Option<usize>
-    ensures { MatchOption result (is_joint n joint ≡ false) (λ i. (joint ≡ pos i) × (0 < i) × (i ≤ n)) }
-{
-    if joint < 1 {
-        return None;
-    }
-    let number = joint as usize;
-    if number <= n { Some(number) } else { None }
 }

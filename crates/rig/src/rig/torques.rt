@@ -5,10 +5,12 @@ ghost use Rattle.dynamics.specs.Entries.{entries};
 ghost use Rattle.dynamics.specs.Recursions.{torques};
 ghost use Rattle.rig.specs.Questions.{first_no, answered, showing};
 ghost use Rattle.rig.specs.Shows.{Shown};
-ghost use Rattle.rig.specs.Holds.{rig_holds};
+ghost use Rattle.dynamics.specs.Held.{Held};
+ghost use Rattle.rig.specs.Holds.{HeldAt, rig_holds};
 ghost use Rattle.rig.specs.Moves.{BaseMoves, Follows, MovesTo};
 
 use crate::rig::Rig;
+use crate::rig::reading::HeldJoint;
 use crate::work::{Moving, Work};
 use motion::{Force, Motion};
 use refusal::Refusal;
@@ -32,38 +34,16 @@ impl<'a, R: Ring> Rig<'a, R> {
         }
     }
 
-    // How joint `i` moves on its parent: v = X v + S q', a = X a + v × S q' + S q'', f = I a + v ×* I v.
-    fn moved(&self, i: usize, parent: Moving<R>) -> Moving<R>
-        requires { (0 < i) × (i ≤ self.now.n) }
-        ensures { Follows R.Ring.ring R.Ring.value (rig_holds R.Ring.ring R.Ring.value self.now) i parent result }
-    {
-        let slot = self.slot(i);
-        let link = slot.link;
-        let joint = self.pose(i);
-        let spin = joint.along(slot.rate);
-        let velocity = joint.outward(parent.velocity) + spin;
-        let acceleration = joint.outward(parent.acceleration)
-            + velocity.cross(spin)
-            + joint.along(slot.acceleration);
-        let force = link.apply(acceleration) + velocity.cross_force(link.apply(velocity));
-        Moving {
-            velocity,
-            acceleration,
-            force,
-        }
-    }
-
     // Outward from the base: how each joint moves, and the force on its own link.
     fn outward(&self, work: &mut [Work<R>])
         requires { (0 < self.now.n) × (self.now.n < length work.old) }
         ensures { MovesTo R.Ring.ring R.Ring.value (rig_holds R.Ring.ring R.Ring.value self.now) self.now.n work.new }
     {
         work[0].moving = self.base();
-        for k in 0..self.n {
-            let i = k + 1;
-            let p = self.parent(i);
-            let parent = work[p].moving;
-            work[i].moving = self.moved(i, parent);
+        for i in 1..=self.n {
+            let joint = self.joint(i);
+            let parent = work[joint.row.parent].moving;
+            work[i].moving = joint.moved(parent);
         }
     }
 
@@ -74,14 +54,14 @@ impl<'a, R: Ring> Rig<'a, R> {
         requires moving { MovesTo R.Ring.ring R.Ring.value (rig_holds R.Ring.ring R.Ring.value self.now) self.now.n work.old }
         ensures { Shown R.Ring.value self.now.n (entries self.now.n (torques R.Ring.ring (rig_holds R.Ring.ring R.Ring.value self.now))) res.old res.new }
     {
-        for k in (0..self.n).rev() {
-            let i = k + 1;
-            let joint = self.pose(i);
+        for i in (1..=self.n).rev() {
+            let joint = self.joint(i);
+            let pose = joint.pose();
             let force = work[i].moving.force;
-            res[k] = joint.component(force);
-            let p = self.parent(i);
+            res[i - 1] = pose.component(force);
+            let p = joint.row.parent;
             if p > 0 {
-                let sum = work[p].moving.force + joint.inward(force);
+                let sum = work[p].moving.force + pose.inward(force);
                 work[p].moving.force = sum;
             }
         }
@@ -92,16 +72,33 @@ impl<'a, R: Ring> Rig<'a, R> {
         ensures answer { result ≡ answered tt (first_no (showing self.now.n self.now.n (length res.old) (length work.old))) }
         ensures shown { elim result [ Ok _ ↦ Shown R.Ring.value self.now.n (entries self.now.n (torques R.Ring.ring (rig_holds R.Ring.ring R.Ring.value self.now))) res.old res.new | Err _ ↦ (res.new ≡ res.old) × (work.new ≡ work.old) ] }
     {
-        if res.len() < self.n {
-            return Err(Refusal::ShortResult);
-        }
-        if work.len() <= self.n {
-            return Err(Refusal::ShortWork);
-        }
+        self.check_lists(self.n, res, work)?;
         if self.n > 0 {
             self.outward(work);
             self.inward(res, work);
         }
         Ok(())
+    }
+}
+
+impl<'r, R: Ring> HeldJoint<'r, R> {
+    // How the joint moves on its parent: v = X v + S q', a = X a + v × S q' + S q'', f = I a + v ×* I v.
+    fn moved(self, parent: Moving<R>) -> Moving<R>
+        ensures { (h : Held R.Ring.Num) (i : ℕ) → HeldAt R.Ring.ring R.Ring.value h i self.entry.row self.entry.slot.now → Follows R.Ring.ring R.Ring.value h i parent result }
+    {
+        let slot = self.slot;
+        let link = slot.link;
+        let pose = self.pose();
+        let spin = pose.along(slot.rate);
+        let velocity = pose.outward(parent.velocity) + spin;
+        let acceleration = pose.outward(parent.acceleration)
+            + velocity.cross(spin)
+            + pose.along(slot.acceleration);
+        let force = link.apply(acceleration) + velocity.cross_force(link.apply(velocity));
+        Moving {
+            velocity,
+            acceleration,
+            force,
+        }
     }
 }

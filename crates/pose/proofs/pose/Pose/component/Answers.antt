@@ -3,14 +3,12 @@ use Rattle.pose.proofs.Axis.{component_turn, component_slide}
 use Rattle.pose.proofs.Found.{component_is}
 use Rattle.pose.proofs.pose.Pose.component.Goals as goal
 
-pub returns-in-Revolute : goal.returns-in-Revolute
-returns-in-Revolute g c =
-    let k = g.R.Ring.ring in
-    let w = force g.R.Ring.value c.args.w in
-    component_is k w c.in-Revolute.is (component_turn k w)
+pub returns-in-Turn : goal.returns-in-Turn
+returns-in-Turn g c =
+    let x = force g.R.Ring.value c.args.w in
+    component_is g.R.Ring.ring g.R.Ring.value c.in-Turn.is x (component_turn g.R.Ring.ring x)
 
-pub returns-in-Prismatic : goal.returns-in-Prismatic
-returns-in-Prismatic g c =
-    let k = g.R.Ring.ring in
-    let w = force g.R.Ring.value c.args.w in
-    component_is k w c.in-Prismatic.is (component_slide k w)
+pub returns-in-Slide : goal.returns-in-Slide
+returns-in-Slide g c =
+    let x = force g.R.Ring.value c.args.w in
+    component_is g.R.Ring.ring g.R.Ring.value c.in-Slide.is x (component_slide g.R.Ring.ring x)

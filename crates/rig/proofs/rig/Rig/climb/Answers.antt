@@ -4,6 +4,7 @@ use Rattle.joint.specs.Joints.{axis, joint_inward}
 use Rattle.dynamics.specs.Recursions.{S}
 use Rattle.rig.specs.Holds.{rig_holds}
 use Rattle.rig.specs.Cells.{Climbs}
+use Rattle.rig.proofs.Held.{moves_as}
 use Rattle.rig.proofs.Climb.{Climbing, climbing_starts, climb_ends, climb_on}
 use Rattle.rig.proofs.rig.Rig.climb.Goals as goal
 
@@ -12,30 +13,22 @@ steps-init g c =
     let k = g.R.Ring.ring in
     let v = g.R.Ring.value in
     let s = c.args.self.now in
-    (c.requires.low, climbing_starts k v (rig_holds k v s) s.n (c.args.i - 1) c.args.force c.args.res.now c.requires.clear)
+    (c.requires.joint.0, climbing_starts k v (rig_holds k v s) s.n (c.args.i - 1) c.args.force c.args.res.now c.requires.clear)
 
-pub pose-joint-requires : goal.pose-joint-requires
-pose-joint-requires g c =
+pub joint-joint-requires : goal.joint-joint-requires
+joint-joint-requires g c =
     let low = c.steps.invariant.1.low in
-    (c.steps.invariant.0, omega (arith, low, c.requires.low, c.requires.high, c.steps.invariant.0))
-
-pub overflow_sub-j : goal.overflow_sub-j
-overflow_sub-j g c = omega (arith, c.steps.invariant.0)
+    (c.steps.invariant.0, omega (arith, low, c.requires.joint.0, c.requires.joint.1, c.steps.invariant.0))
 
 pub put_both-requires : goal.put_both-requires
 put_both-requires g c =
     let low = c.steps.invariant.1.low in
     record {
       few = c.args.self.now.few;
-      row = omega (arith, c.requires.low, c.requires.high);
-      column = omega (arith, low, c.requires.low, c.requires.high, c.steps.invariant.0);
+      row = omega (arith, c.requires.joint.0, c.requires.joint.1);
+      column = omega (arith, low, c.requires.joint.0, c.requires.joint.1, c.steps.invariant.0);
       room = let same = c.steps.auto.res in subst (λ m. c.args.self.now.n * c.args.self.now.n ≤ m) (sym same) c.requires.room;
     }
-
-pub parent-p-requires : goal.parent-p-requires
-parent-p-requires g c =
-    let low = c.steps.invariant.1.low in
-    (c.steps.invariant.0, omega (arith, low, c.requires.low, c.requires.high, c.steps.invariant.0))
 
 pub returns-then-p-eq0 : goal.returns-then-p-eq0
 returns-then-p-eq0 g c =
@@ -47,14 +40,16 @@ returns-then-p-eq0 g c =
     let j = c.steps.j - 1 in
     let pos = c.steps.invariant.0 in
     let at : c.steps.j ≡ suc (c.steps.j - 1) = omega (arith, pos) in
-    let la : c.args.i - 1 < s.n = omega (arith, c.requires.low, c.requires.high) in
+    let la : c.args.i - 1 < s.n = omega (arith, c.requires.joint.0, c.requires.joint.1) in
     let same = c.steps.auto.res in
     let room : s.n * s.n ≤ length c.steps.res = subst (λ m. s.n * s.n ≤ m) (sym same) c.requires.room in
+    let is = c.joint-joint.ensures.is in
+    let posed_is = c.pose-pose.ensures ∙ is.joint_is in
     let entry : v c.component.result ≡ pairing k (S k h c.steps.j) (force v c.steps.f) =
-    c.component.ensures ∙ ap (λ x. pairing k (axis k x.kind) (force v c.steps.f)) c.pose-joint.ensures in
+    c.component.ensures ∙ ap (λ κ. pairing k (axis k κ) (force v c.steps.f)) (moves_as k v c.pose-pose.result _ posed_is) in
     subst (λ xs. Climbs k v h s.n a c.args.force c.args.res.now xs) (sym c.put_both.ensures)
     (climb_ends k v h s.n a c.args.force c.args.res.now j c.steps.j at c.steps.f c.steps.res c.steps.invariant.1 la room
-    c.component.result entry c.parent-p.result c.parent-p.ensures.is c.if-p-eq0.true)
+    c.component.result entry c.joint-joint.result.row.parent is.parent_is c.if-p-eq0.true)
 
 pub steps-preserved : goal.steps-preserved
 steps-preserved g c =
@@ -66,15 +61,17 @@ steps-preserved g c =
     let j = c.steps.j - 1 in
     let pos = c.steps.invariant.0 in
     let at : c.steps.j ≡ suc (c.steps.j - 1) = omega (arith, pos) in
-    let la : c.args.i - 1 < s.n = omega (arith, c.requires.low, c.requires.high) in
+    let la : c.args.i - 1 < s.n = omega (arith, c.requires.joint.0, c.requires.joint.1) in
     let same = c.steps.auto.res in
     let room : s.n * s.n ≤ length c.steps.res = subst (λ m. s.n * s.n ≤ m) (sym same) c.requires.room in
+    let is = c.joint-joint.ensures.is in
+    let posed_is = c.pose-pose.ensures ∙ is.joint_is in
     let entry : v c.component.result ≡ pairing k (S k h c.steps.j) (force v c.steps.f) =
-    c.component.ensures ∙ ap (λ x. pairing k (axis k x.kind) (force v c.steps.f)) c.pose-joint.ensures in
+    c.component.ensures ∙ ap (λ κ. pairing k (axis k κ) (force v c.steps.f)) (moves_as k v c.pose-pose.result _ posed_is) in
     let ne = c.if-p-eq0.false in (
       omega (arith, ne),
-      subst (λ xs. Climbing k v h s.n a c.args.force c.args.res.now (c.parent-p.result - 1) c.inward-f.result xs) (sym c.put_both.ensures)
+      subst (λ xs. Climbing k v h s.n a c.args.force c.args.res.now (c.joint-joint.result.row.parent - 1) c.inward-f.result xs) (sym c.put_both.ensures)
           (climb_on k v h s.n a c.args.force c.args.res.now j c.steps.j at c.steps.f c.steps.res c.steps.invariant.1 la room
-          c.component.result entry c.parent-p.result c.parent-p.ensures.is ne c.inward-f.result
-          (c.inward-f.ensures ∙ ap (λ x. joint_inward k x (force v c.steps.f)) c.pose-joint.ensures)),
+          c.component.result entry c.joint-joint.result.row.parent is.parent_is ne c.inward-f.result
+          (c.inward-f.ensures ∙ ap (λ x. joint_inward k x (force v c.steps.f)) posed_is)),
     )

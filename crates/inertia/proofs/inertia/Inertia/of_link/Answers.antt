@@ -1,7 +1,0 @@
-use Rattle.std.proofs.Common.{rules}
-use Rattle.inertia.specs.Inertias.{of_link}
-use Rattle.inertia.proofs.inertia.Inertia.of_link.Goals as goal
-
-pub returns : goal.returns
-unfolding of_link
-returns g c = search rules

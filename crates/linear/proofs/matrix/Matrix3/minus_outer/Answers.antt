@@ -1,5 +1,0 @@
-use Rattle.std.proofs.Common.{rules}
-use Rattle.linear.proofs.matrix.Matrix3.minus_outer.Goals as goal
-
-pub returns : goal.returns
-returns g c = search rules

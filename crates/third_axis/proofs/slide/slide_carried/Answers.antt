@@ -1,8 +1,0 @@
-use Rattle.inertia.specs.Inertias.{inertia}
-use Rattle.third_axis.proofs.Blocks.{slid_inertia_is}
-use Rattle.third_axis.proofs.slide.slide_carried.Goals as goal
-
-pub returns : goal.returns
-returns g c =
-    let v = g.R.Ring.value in
-    slid_inertia_is g.R.Ring.ring (v c.args.q) (inertia v c.args.a) c.slid_coupling-coupling.ensures c.slid_angular.ensures

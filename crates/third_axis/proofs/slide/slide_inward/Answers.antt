@@ -1,8 +1,0 @@
-use Rattle.motion.specs.Vectors.{force}
-use Rattle.third_axis.proofs.Vectors.{slid_force_is}
-use Rattle.third_axis.proofs.slide.slide_inward.Goals as goal
-
-pub returns : goal.returns
-returns g c =
-    let v = g.R.Ring.value in
-    slid_force_is g.R.Ring.ring (v c.args.q) (force v c.args.w) c.neg.ensures c.moved.ensures
