@@ -1,2 +1,1 @@
 pub mod DualCopies
-pub mod Places

@@ -1,6 +1,6 @@
 -- The numbers a + b e with e e = 0, over any ring.
 use Rattle.std.specs.Prelude.{◌≡◌, ℕ, zero, suc, ◌+◌, ◌^◌, ◌<◌, List, [], ◌∷◌, ◌++◌, length, take, drop, Some, None, Option, slice_index, refl}
-use Rattle.std.proofs.Common.{sym, ap, ◌∙◌, arith, length-append}
+use Rattle.std.proofs.Common.{sym, ap, ◌∙◌, length-append}
 use Rattle.std.proofs.Math.Seq.{take-append_seam, drop-append_seam}
 use Rattle.std.specs.Option.{option_map}
 use Rattle.ring.specs.CommRing.{CommRing}
@@ -49,7 +49,7 @@ module _ {N : Type 0} (k : CommRing N) where
   pub dual_inverse_right :
       (x y : Dual N) (o : Option N) → k.inverse x.first ≡ o → option_map (dual_over x) o ≡ Some y
       → dual_mul x y ≡ dual k.one k.zero
-  dual_inverse_right x y None e h = absurd (let z : ◌≡◌ {A = ℕ} 0 1 = cc in omega arith)
+  dual_inverse_right x y None e h = cc
   dual_inverse_right x y (Some i) e h =
       ap (dual_mul x) (sym inside) ∙ over_right x i (k.inverse_right x.first i e)
     where
@@ -59,7 +59,7 @@ module _ {N : Type 0} (k : CommRing N) where
   -- a dual number has no inverse only where its first part has none
   pub none_first : (x : Dual N) (o : Option N) → option_map (dual_over x) o ≡ None → o ≡ None
   none_first x None h = refl
-  none_first x (Some i) h = absurd (let z : ◌≡◌ {A = ℕ} 0 1 = cc in omega arith)
+  none_first x (Some i) h = cc
 
   abbrev pub duals : CommRing (Dual N)
   duals =

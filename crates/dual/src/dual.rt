@@ -18,8 +18,7 @@ impl<R: Ring> Dual<R> {
         ensures is { R.Ring.value result ≡ first_part (dual_map R.Ring.value self) }
         ensures maps { RingMap (duals R.Ring.ring) R.Ring.ring first_part }
     {
-        let Dual { first, .. } = self;
-        first
+        self.first
     }
 }
 
@@ -105,10 +104,9 @@ impl<R: Ring> Ring for Dual<R> {
     }
 
     fn part(self, i: usize) -> Option<u32> {
-        match self.first.part(i) {
-            Some(part) => Some(part),
-            None => self.second.part(i - R::part_count()),
-        }
+        self.first
+            .part(i)
+            .or_else(|| self.second.part(i - R::part_count()))
     }
 
     fn natural(n: u64) -> Dual<R> {

@@ -1,10 +1,10 @@
 -- The ring of the whole numbers modulo 15.
-use Rattle.std.specs.Prelude.{◌≡◌, ℕ, zero, suc, ◌+◌, ◌-◌, ◌*◌, ◌/◌, ◌%◌, ◌^◌, ◌<◌, Bool, true, false, cond, List, [], ◌∷◌, Some, None, Option, MatchOption, ◌==◌, ◌≢◌, slice_index, refl}
-use Rattle.std.proofs.Common.{sym, ap, subst, ◌∙◌, add-mul, mul-add, mul_assoc, mul_comm, mod-lt, mod-eq_of_lt, arith, below_more, eqb-true}
+use Rattle.std.specs.Prelude.{◌≡◌, ℕ, zero, suc, ◌+◌, ◌-◌, ◌*◌, ◌%◌, ◌^◌, ◌<◌, Bool, true, false, cond, List, [], ◌∷◌, Some, None, Option, MatchOption, ◌==◌, ◌≢◌, slice_index, refl}
+use Rattle.std.proofs.Common.{sym, ap, subst, ◌∙◌, mul-add, mul_assoc, mul_comm, mod-lt, mod-eq_of_lt, arith, below_more, eqb-true}
 use mathlib.Core.HLevel.{is_prop→PathP}
-use Rattle.std.proofs.Math.Nat.{mod-add-div}
 use Rattle.std.proofs.Math.Bridge.{le_prop}
 use Rattle.std.proofs.lemmas.Bool.{eqb-false}
+use Rattle.std.proofs.lemmas.Nat.{mul-mod_first, mul-mod_second}
 use Rattle.ring.specs.CommRing.{CommRing}
 use Rattle.ring.specs.Parts.{Parts}
 use Rattle.ring_tests.specs.declared.fifteen.Fifteen.{Fifteen}
@@ -23,18 +23,6 @@ read n = record { at = n % 15; small = mod-lt n (omega arith) }
 
 abbrev pub fifteen_value : Fifteen → Number
 fifteen_value f = read f.digit
-
--- a factor may be read modulo 15 before or after
-pub read_left : (a b : ℕ) → (a % 15) * b % 15 ≡ a * b % 15
-read_left a b =
-    let e : a * b ≡ (a % 15) * b + 15 * ((a / 15) * b) =
-    ap (λ n. n * b) (sym (mod-add-div a 15))
-    ∙ add-mul (a % 15) (15 * (a / 15)) b
-    ∙ ap (λ n. (a % 15) * b + n) (mul_assoc 15 (a / 15) b) in
-    omega arith
-
-pub read_right : (a b : ℕ) → a * (b % 15) % 15 ≡ a * b % 15
-read_right a b = ap (λ n. n % 15) (mul_comm a (b % 15)) ∙ read_left b a ∙ ap (λ n. n % 15) (mul_comm b a)
 
 abbrev pub times : Number → Number → Number
 times x y = read (x.at * y.at)
@@ -86,15 +74,15 @@ fifteens =
       mul_assoc =
           λ x y z.
           number_eq _ _
-          (read_left (x.at * y.at) z.at
+          (mul-mod_first (x.at * y.at) z.at 15
           ∙ ap (λ n. n % 15) (mul_assoc x.at y.at z.at)
-          ∙ sym (read_right x.at (y.at * z.at)));
+          ∙ sym (mul-mod_second x.at (y.at * z.at) 15));
       mul_comm = λ x y. number_eq _ _ (ap (λ n. n % 15) (mul_comm x.at y.at));
       mul_one = λ x. number_eq _ _ (let h = x.small in omega arith);
       distrib =
           λ x y z.
           number_eq _ _
-          (read_right x.at (y.at + z.at)
+          (mul-mod_second x.at (y.at + z.at) 15
           ∙ ap (λ n. n % 15) (mul-add x.at y.at z.at)
           ∙ omega arith);
       apart = λ e. let h : ◌≡◌ {A = ℕ} 0 1 = ap (λ x. x.at) e in omega arith;

@@ -54,13 +54,9 @@ impl Ring for Fifteen {
 
     // There are so few numbers that each is tried.
     fn inverse(self) -> Option<Fifteen> {
-        for digit in 0..15 {
-            let other = Fifteen { digit };
-            if self.mul(other).equals(Fifteen::one()) {
-                return Some(other);
-            }
-        }
-        None
+        (0..15)
+            .map(|digit| Fifteen { digit })
+            .find(|other| self.mul(*other).equals(Fifteen::one()))
     }
 
     fn part_count() -> usize {

@@ -14,11 +14,6 @@ pub(crate) fn parts_are<R: Ring>(rt: &impl Abort, x: R, parts: &[u32]) {
 
 // `x` is a unit just where `expected` says so, and times its inverse it is one.
 pub(crate) fn unit_is<R: Ring>(rt: &impl Abort, x: R, expected: bool) {
-    match x.inverse() {
-        Some(inverse) => {
-            assert!(rt; expected);
-            assert!(rt; x.mul(inverse).equals(R::one()));
-        }
-        None => assert!(rt; !expected),
-    }
+    let comes_to_one = x.inverse().map(|i| x.mul(i).equals(R::one()));
+    assert_eq!(rt; comes_to_one, expected.then_some(true));
 }

@@ -43,13 +43,9 @@ const INVERSES: [Option<u8>; 15] = [
 
 #[test]
 fn units_are_coprime_to_15(rt: HostRuntime) {
-    for digit in 0..15u8 {
+    for (digit, inverse) in (0..15u8).zip(INVERSES) {
         let x = Fifteen { digit };
-        let inverse = match x.inverse() {
-            Some(y) => Some(y.digit),
-            None => None,
-        };
-        assert_eq!(rt; inverse, INVERSES[digit as usize]);
+        assert_eq!(rt; x.inverse().map(|y| y.digit), inverse);
         unit_is(&rt, x, digit % 3 != 0 && digit % 5 != 0);
     }
 }

@@ -43,11 +43,7 @@ fn single_holds<R: Stored>(rt: &impl Abort, row: Single) {
     let x = R::of(word);
     parts_are(rt, x, &[part]);
     assert_eq!(rt; x.neg().word(), negative, "of {word}");
-    let found = match x.inverse() {
-        Some(i) => Some(i.word()),
-        None => None,
-    };
-    assert_eq!(rt; found, inverse, "of {word}");
+    assert_eq!(rt; x.inverse().map(|i| i.word()), inverse, "of {word}");
 }
 
 fn pair_holds<R: Stored>(rt: &impl Abort, row: Pair) {

@@ -1,5 +1,0 @@
-use Rattle.std.proofs.Common.{rules}
-use Rattle.dual.proofs.dual.DualRing.part_count.Goals as goal
-
-pub returns : goal.returns
-returns g c = search rules
