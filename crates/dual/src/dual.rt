@@ -18,7 +18,8 @@ impl<R: Ring> Dual<R> {
         ensures is { R.Ring.value result ≡ first_part (dual_map R.Ring.value self) }
         ensures maps { RingMap (duals R.Ring.ring) R.Ring.ring first_part }
     {
-        self.first
+        let Dual { first, .. } = self;
+        first
     }
 }
 
