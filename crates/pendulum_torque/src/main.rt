@@ -2,14 +2,12 @@
 #![tactic(auto)]
 
 use figures::{plain_arm, plain_torque, skew_arm, skew_torque, sloped_arm, sloped_torque};
+use numbers::{Number, Row, Six};
 use pendulum::{Pendulum, Steps};
 use ring::Ring;
-use show::{Number, Row, Six};
 use spatial::Link;
 use std::io;
 use triple::Triple;
-
-mod show;
 
 fn print_link<R: Ring>(rt: &HostRuntime, link: Link<R>) -> io::Result<()> {
     let j = link.inertia;

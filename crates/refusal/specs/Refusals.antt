@@ -1,5 +1,6 @@
 -- The refusals: the number of the question that got a no, and the joint that is named.
-use Rattle.std.specs.Prelude.{ℕ}
+use Rattle.std.specs.Prelude.{ℕ, List, ◌++◌, codes}
+use Rattle.std.specs.Fmt.{decimal}
 use Rattle.refusal.specs.declared.Refusal.{Refusal}
 use Rattle.refusal.specs.declared.Refusal.TheVariants.{NoSlot, NoParent, NoKind, NoRotation, NoJoint, NoPosition, ShortResult, ShortWork}
 
@@ -23,3 +24,7 @@ joint NoJoint = 0
 joint (NoPosition j) = j
 joint ShortResult = 0
 joint ShortWork = 0
+
+-- what `{}` writes of a refusal, as `refused 6, joint 2`
+abbrev pub refusal_text : Refusal → List ℕ
+refusal_text refusal = codes "refused " ++ decimal (number refusal) ++ codes ", joint " ++ decimal (joint refusal)

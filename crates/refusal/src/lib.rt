@@ -1,11 +1,13 @@
 // Why a call of a rig is refused.
 #![tactic(auto)]
 
-ghost use Rattle.std.specs.Prelude.{◌≡◌};
-ghost use Rattle.refusal.specs.Refusals.{number as number_of, joint as joint_of};
+ghost use Rattle.std.specs.Prelude.{◌≡◌, Some};
+ghost use Rattle.refusal.specs.Refusals.{number as number_of, joint as joint_of, refusal_text};
 ghost use Rattle.refusal.specs.declared.Refusal.TheVariants.{NoKind};
 
 use joint::UnknownKind;
+use std::error::Error;
+use std::fmt;
 
 #[derive(Clone, Copy, Debug, PartialEq, Eq)]
 pub enum Refusal {
@@ -54,3 +56,15 @@ impl From<UnknownKind> for Refusal {
         Self::NoKind
     }
 }
+
+impl fmt::Display for Refusal {
+    ghost output = { λ refusal. Some (refusal_text refusal) };
+
+    fn fmt<W: fmt::Write>(&self, f: &mut fmt::Formatter<W>) -> fmt::Result {
+        let number = self.number();
+        let joint = self.joint();
+        write!(f, "refused {number}, joint {joint}")
+    }
+}
+
+impl Error for Refusal {}

@@ -1,5 +1,6 @@
 mod adding;
 mod call;
 mod figures;
+mod refusing;
 mod setting;
 mod showing;

@@ -1,128 +1,105 @@
 // Builds an arm of three joints through the calls of a rig, and prints every call with its answer or refusal.
 #![tactic(auto)]
 
+use answers::{Done, Joint};
 use arm::{add_first, add_plain, add_second, add_third, triple};
-use numbers::{List, Number};
+use numbers::List;
 use refusal::Refusal;
 use residue::RingA;
 use rig::{Rig, Slot, Work};
 use ring::{Ring, whole};
+use std::fmt::Display;
 use std::io;
 use word::RingW;
 
+mod answers;
 mod arm;
-mod numbers;
 
-// A call that answers nothing when it is taken.
-fn report(rt: &HostRuntime, call: &str, answer: Result<(), Refusal>) -> io::Result<()> {
-    match answer {
-        Ok(()) => println!(rt; "{call:<46}  done"),
-        Err(refusal) => report_refusal(rt, call, refusal),
-    }
-}
-
-fn report_joint(rt: &HostRuntime, call: &str, answer: Result<usize, Refusal>) -> io::Result<()> {
-    match answer {
-        Ok(joint) => println!(rt; "{call:<46}  joint {joint}"),
-        Err(refusal) => report_refusal(rt, call, refusal),
-    }
-}
-
-fn report_refusal(rt: &HostRuntime, call: &str, refusal: Refusal) -> io::Result<()> {
-    let number = refusal.number();
-    let joint = refusal.joint();
-    println!(rt; "{call:<46}  refused {number}, joint {joint}")
-}
-
-// A show, with the entries that it fills.
-fn report_show<R: Ring>(
+// A call with its answer, or with its refusal.
+fn report<T: Display + Drop>(
     rt: &HostRuntime,
     call: &str,
-    answer: Result<(), Refusal>,
-    shown: &[R],
+    answer: Result<T, Refusal>,
 ) -> io::Result<()> {
     match answer {
-        Ok(()) => println!(rt; "{call:<46}  {}", List(shown)),
-        Err(refusal) => report_refusal(rt, call, refusal),
+        Ok(answer) => println!(rt; "{call:<46}  {answer}"),
+        Err(refusal) => println!(rt; "{call:<46}  {refusal}"),
     }
 }
 
 // Three joints, and each way in which adding is refused.
 fn build(rt: &HostRuntime, rig: &mut Rig<RingA>) -> io::Result<()> {
-    report_joint(rt, "add 0 R", add_first(rig, 0))?;
-    report_joint(rt, "add 1 P", add_second(rig, 1, b'P'))?;
-    report_joint(
-        rt,
-        "add 5 R, with two joints there",
-        add_third(rig, 5, whole(1)),
-    )?;
-    report_joint(rt, "add 1 X", add_second(rig, 1, b'X'))?;
-    report_joint(
-        rt,
-        "add 1 R, turned by 0 0 0 0",
-        add_third(rig, 1, whole(0)),
-    )?;
-    report_joint(rt, "add 1 R", add_third(rig, 1, whole(1)))?;
-    report_joint(rt, "add 0 R, with no slot left", add_first(rig, 0))
+    let answers = [
+        ("add 0 R", add_first(rig, 0)),
+        ("add 1 P", add_second(rig, 1, b'P')),
+        (
+            "add 5 R, with two joints there",
+            add_third(rig, 5, whole(1)),
+        ),
+        ("add 1 X", add_second(rig, 1, b'X')),
+        ("add 1 R, turned by 0 0 0 0", add_third(rig, 1, whole(0))),
+        ("add 1 R", add_third(rig, 1, whole(1))),
+        ("add 0 R, with no slot left", add_first(rig, 0)),
+    ];
+    for (call, answer) in answers {
+        report(rt, call, answer.map(Joint))?;
+    }
+    Ok(())
 }
 
-fn set_state(rt: &HostRuntime, rig: &mut Rig<RingA>) -> io::Result<()> {
-    report(rt, "set_gravity 1 2 3", rig.set_gravity(triple(1, 2, 3)))?;
-    report(rt, "set_position 1 2", rig.set_position(1, whole(2)))?;
-    report(rt, "set_position 2 7", rig.set_position(2, whole(7)))?;
-    report(rt, "set_position 3 3", rig.set_position(3, whole(3)))?;
-    report(rt, "set_rate 1 5", rig.set_rate(1, whole(5)))?;
-    report(rt, "set_rate 2 2", rig.set_rate(2, whole(2)))?;
-    report(rt, "set_rate 3 6", rig.set_rate(3, whole(6)))?;
-    report(
-        rt,
-        "set_rate 4 6, with three joints there",
-        rig.set_rate(4, whole(6)),
-    )?;
-    report(rt, "set_rate -1 6", rig.set_rate(-1, whole(6)))
-}
-
-fn set_accelerations(rt: &HostRuntime, rig: &mut Rig<RingA>) -> io::Result<()> {
-    report(
-        rt,
-        "set_acceleration 1 3",
-        rig.set_acceleration(1, whole(3)),
-    )?;
-    report(
-        rt,
-        "set_acceleration 2 4",
-        rig.set_acceleration(2, whole(4)),
-    )?;
-    report(
-        rt,
-        "set_acceleration 3 1",
-        rig.set_acceleration(3, whole(1)),
-    )?;
-    report(rt, "set_force 1 9", rig.set_force(1, whole(9)))
+fn set(rt: &HostRuntime, rig: &mut Rig<RingA>) -> io::Result<()> {
+    let answers = [
+        ("set_gravity 1 2 3", rig.set_gravity(triple(1, 2, 3))),
+        ("set_position 1 2", rig.set_position(1, whole(2))),
+        ("set_position 2 7", rig.set_position(2, whole(7))),
+        ("set_position 3 3", rig.set_position(3, whole(3))),
+        ("set_rate 1 5", rig.set_rate(1, whole(5))),
+        ("set_rate 2 2", rig.set_rate(2, whole(2))),
+        ("set_rate 3 6", rig.set_rate(3, whole(6))),
+        (
+            "set_rate 4 6, with three joints there",
+            rig.set_rate(4, whole(6)),
+        ),
+        ("set_rate -1 6", rig.set_rate(-1, whole(6))),
+        ("set_acceleration 1 3", rig.set_acceleration(1, whole(3))),
+        ("set_acceleration 2 4", rig.set_acceleration(2, whole(4))),
+        ("set_acceleration 3 1", rig.set_acceleration(3, whole(1))),
+        ("set_force 1 9", rig.set_force(1, whole(9))),
+    ];
+    for (call, answer) in answers {
+        report(rt, call, answer.map(|()| Done))?;
+    }
+    Ok(())
 }
 
 fn show(rt: &HostRuntime, rig: &Rig<RingA>) -> io::Result<()> {
     let mut work = [Work::blank(); 4];
     let mut torques = [RingA::zero(); 3];
     let answer = rig.show_torques(&mut torques, &mut work);
-    report_show(rt, "show_torques", answer, &torques)?;
+    report(rt, "show_torques", answer.map(|()| List(&torques)))?;
     let mut matrix = [RingA::zero(); 9];
     let answer = rig.show_matrix(&mut matrix, &mut work);
-    report_show(rt, "show_matrix", answer, &matrix)?;
+    report(rt, "show_matrix", answer.map(|()| List(&matrix)))?;
     let answer = rig.show_matrix(&mut torques, &mut work);
-    report(rt, "show_matrix into three entries", answer)?;
+    report(rt, "show_matrix into three entries", answer.map(|()| Done))?;
     let mut short = [Work::blank(); 3];
     let answer = rig.show_torques(&mut torques, &mut short);
-    report(rt, "show_torques with three work entries", answer)
+    report(
+        rt,
+        "show_torques with three work entries",
+        answer.map(|()| Done),
+    )
 }
 
 // A revolute joint modulo 2^32 has no position t where 1 + t t is even.
 fn show_positions(rt: &HostRuntime) -> io::Result<()> {
     let mut slots = [Slot::<RingW>::blank(); 2];
     let mut rig = Rig::new(&mut slots);
-    report_joint(rt, "add 0 R", add_plain(&mut rig))?;
-    report(rt, "set_position 1 1", rig.set_position(1, whole(1)))?;
-    report(rt, "set_position 1 2", rig.set_position(1, whole(2)))
+    report(rt, "add 0 R", add_plain(&mut rig).map(Joint))?;
+    let answer = rig.set_position(1, whole(1));
+    report(rt, "set_position 1 1", answer.map(|()| Done))?;
+    let answer = rig.set_position(1, whole(2));
+    report(rt, "set_position 1 2", answer.map(|()| Done))
 }
 
 fn main(rt: HostRuntime) -> io::Result<()> {
@@ -130,8 +107,7 @@ fn main(rt: HostRuntime) -> io::Result<()> {
     let mut slots = [Slot::<RingA>::blank(); 4];
     let mut rig = Rig::new(&mut slots);
     build(&rt, &mut rig)?;
-    set_state(&rt, &mut rig)?;
-    set_accelerations(&rt, &mut rig)?;
+    set(&rt, &mut rig)?;
     show(&rt, &rig)?;
     println!(rt; "")?;
     println!(rt; "A rig over two slots, modulo 4294967296")?;

@@ -1,5 +1,9 @@
 // Figures that are known beforehand, through the calls of a rig.
-use super::call::{Body, Call, entries_in_a, entries_in_w};
+use super::call::{Body, Call, Lent, Show, check_entries};
+use residue::RingA;
+use rig::{Slot, Work};
+use ring::Ring;
+use word::RingW;
 
 fn slide(mass: i64) -> Body {
     Body {
@@ -27,15 +31,30 @@ fn swing(rt: HostRuntime) {
         Call::Rate(1, 5),
         Call::Acceleration(1, 3),
     ];
-    entries_in_a(&rt, &calls, false, &[26]);
+    let lent = Lent {
+        slots: &mut [Slot::<RingA>::blank(); 9],
+        shown: &mut [RingA::zero(); 24],
+        work: &mut [Work::<RingA>::blank(); 24],
+    };
+    check_entries(&rt, lent, &calls, Show::Torques, &[26]);
 }
 
 // The slides: masses 2 and 3, one on the other.
 #[test]
 fn slides(rt: HostRuntime) {
     let calls = [Call::Add(0, slide(2)), Call::Add(1, slide(3))];
-    entries_in_a(&rt, &calls, true, &[5, 3, 3, 3]);
-    entries_in_w(&rt, &calls, true, &[5, 3, 3, 3]);
+    let lent = Lent {
+        slots: &mut [Slot::<RingA>::blank(); 9],
+        shown: &mut [RingA::zero(); 24],
+        work: &mut [Work::<RingA>::blank(); 24],
+    };
+    check_entries(&rt, lent, &calls, Show::Matrix, &[5, 3, 3, 3]);
+    let lent = Lent {
+        slots: &mut [Slot::<RingW>::blank(); 9],
+        shown: &mut [RingW::zero(); 24],
+        work: &mut [Work::<RingW>::blank(); 24],
+    };
+    check_entries(&rt, lent, &calls, Show::Matrix, &[5, 3, 3, 3]);
 }
 
 // Crossed: a slide without mass, and across it a revolute joint with a first moment only.
@@ -49,5 +68,10 @@ fn crossed(rt: HostRuntime) {
         inertia: 0,
     };
     let calls = [Call::Add(0, slide(0)), Call::Add(1, across)];
-    entries_in_a(&rt, &calls, true, &[0, 1, 1, 0]);
+    let lent = Lent {
+        slots: &mut [Slot::<RingA>::blank(); 9],
+        shown: &mut [RingA::zero(); 24],
+        work: &mut [Work::<RingA>::blank(); 24],
+    };
+    check_entries(&rt, lent, &calls, Show::Matrix, &[0, 1, 1, 0]);
 }

@@ -1,33 +1,69 @@
 // The shows: lists that are too short, entries that stay, and refused calls that leave everything.
 use super::adding::HINGE;
-use super::call::{Call, calls_in_a, entries_in_a};
+use super::call::{Call, Lent, Show, check_calls_on, check_entries, show_into};
+use refusal::Refusal;
+use residue::RingA;
+use rig::{Rig, Slot, Work};
+use ring::Ring;
+use std::process::Abort;
+
+// A show into the first entries of two lists of 24.
+fn show_part(rig: &Rig<RingA>, show: Show, results: usize, works: usize) -> Result<(), Refusal> {
+    let mut shown = [RingA::zero(); 24];
+    let mut work = [Work::<RingA>::blank(); 24];
+    let shown = &mut shown[..results.min(24)];
+    let work = &mut work[..works.min(24)];
+    show_into(rig, show, shown, work)
+}
+
+// Each show, with the lengths of its result list and its work list, answers as the table says.
+fn check_shows(
+    rt: &impl Abort,
+    rig: &Rig<RingA>,
+    table: &[(Show, usize, usize, Result<(), Refusal>)],
+) {
+    for (show, results, works, expected) in table {
+        assert_eq!(rt; show_part(rig, *show, *results, *works), *expected);
+    }
+}
 
 #[test]
 fn lengths(rt: HostRuntime) {
-    let table = [
-        (Call::Torques(0, 0), (8, 0)),
-        (Call::Matrix(0, 0), (8, 0)),
-        (Call::Torques(0, 1), (0, 0)),
-        (Call::Matrix(0, 1), (0, 0)),
-        (Call::Add(0, HINGE), (0, 1)),
-        (Call::Add(1, HINGE), (0, 2)),
-        (Call::Torques(1, 2), (7, 0)),
-        (Call::Torques(1, 3), (7, 0)),
-        (Call::Torques(2, 2), (8, 0)),
-        (Call::Torques(2, 3), (0, 0)),
-        (Call::Torques(5, 4), (0, 0)),
-        (Call::Matrix(3, 2), (7, 0)),
-        (Call::Matrix(3, 3), (7, 0)),
-        (Call::Matrix(4, 2), (8, 0)),
-        (Call::Matrix(4, 3), (0, 0)),
-        (Call::Matrix(7, 4), (0, 0)),
+    let mut slots = [Slot::<RingA>::blank(); 9];
+    let mut rig = Rig::new(&mut slots);
+    let none = [
+        (Show::Torques, 0, 0, Err(Refusal::ShortWork)),
+        (Show::Matrix, 0, 0, Err(Refusal::ShortWork)),
+        (Show::Torques, 0, 1, Ok(())),
+        (Show::Matrix, 0, 1, Ok(())),
     ];
-    calls_in_a(&rt, 9, &table);
+    check_shows(&rt, &rig, &none);
+    let joints = [(Call::Add(0, HINGE), Ok(1)), (Call::Add(1, HINGE), Ok(2))];
+    check_calls_on(&rt, &mut rig, &joints);
+    let two = [
+        (Show::Torques, 1, 2, Err(Refusal::ShortResult)),
+        (Show::Torques, 1, 3, Err(Refusal::ShortResult)),
+        (Show::Torques, 2, 2, Err(Refusal::ShortWork)),
+        (Show::Torques, 2, 3, Ok(())),
+        (Show::Torques, 5, 4, Ok(())),
+        (Show::Matrix, 3, 2, Err(Refusal::ShortResult)),
+        (Show::Matrix, 3, 3, Err(Refusal::ShortResult)),
+        (Show::Matrix, 4, 2, Err(Refusal::ShortWork)),
+        (Show::Matrix, 4, 3, Ok(())),
+        (Show::Matrix, 7, 4, Ok(())),
+    ];
+    check_shows(&rt, &rig, &two);
 }
 
 // Without joints nothing is shown, and no entry is touched.
 #[test]
 fn nothing_to_show(rt: HostRuntime) {
-    entries_in_a(&rt, &[Call::Gravity(4)], false, &[]);
-    entries_in_a(&rt, &[Call::Gravity(4)], true, &[]);
+    for show in [Show::Torques, Show::Matrix] {
+        let lent = Lent {
+            slots: &mut [Slot::<RingA>::blank(); 9],
+            shown: &mut [RingA::zero(); 24],
+            work: &mut [Work::<RingA>::blank(); 24],
+        };
+        check_entries(&rt, lent, &[Call::Gravity(4)], show, &[]);
+    }
 }
