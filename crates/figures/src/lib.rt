@@ -7,8 +7,6 @@ ghost use Rattle.modular.specs.Below.{one_part};
 ghost use Rattle.residue.specs.Residues.{residues, residue_value};
 ghost use Rattle.dual.specs.DualNumbers.{dual, dual_map, dual_parts, duals};
 ghost use Rattle.pendulum.specs.NewtonEuler.{pendulum, steps, newton_euler};
-ghost use Rattle.ring.specs.Whole.{whole as enters};
-ghost use Rattle.triple.specs.Triples.{triple};
 ghost use Rattle.figures.specs.Arm.{arm as described, skew};
 ghost use Rattle.figures.specs.Known.{Known, in_a};
 
@@ -101,7 +99,7 @@ pub fn skew_arm() -> Pendulum<RingA>
     Pendulum {
         link: Link {
             mass: whole(2),
-            first_moment: row(5, 10, 15),
+            first_moment: Triple::whole(5, 10, 15),
             inertia: Symmetric3 {
                 xx: whole(1),
                 xy: whole(2),
@@ -111,20 +109,10 @@ pub fn skew_arm() -> Pendulum<RingA>
                 zz: whole(7),
             },
         },
-        gravity: row(1, 2, 3),
+        gravity: Triple::whole(1, 2, 3),
         position: whole(2),
         rate: whole(5),
         acceleration: whole(3),
-    }
-}
-
-fn row<R: Ring>(x: i64, y: i64, z: i64) -> Triple<R>
-    ensures { triple R.Ring.value result ≡ record { x = enters R.Ring.ring x; y = enters R.Ring.ring y; z = enters R.Ring.ring z } }
-{
-    Triple {
-        x: whole(x),
-        y: whole(y),
-        z: whole(z),
     }
 }
 

@@ -1,7 +1,8 @@
 -- The rotation of four numbers a, b, c, d, which need not have length one.
-use Rattle.std.specs.Prelude.{Option}
+use Rattle.std.specs.Prelude.{ℤ, Option}
 use Rattle.std.specs.Option.{option_map}
 use Rattle.ring.specs.CommRing.{CommRing}
+use Rattle.ring.specs.Whole.{whole}
 use Rattle.triple.specs.Ops.{Ops, ops}
 use Rattle.linear.specs.declared.matrix.Matrix3.{Matrix3}
 use Rattle.rotation.specs.declared.quaternion.Quaternion.{Quaternion}
@@ -9,6 +10,10 @@ use Rattle.rotation.specs.declared.quaternion.Quaternion.{Quaternion}
 -- each number by f
 abbrev pub quaternion : {S N : Type 0} → (S → N) → Quaternion S → Quaternion N
 quaternion f q = record { a = f q.a; b = f q.b; c = f q.c; d = f q.d }
+
+-- four whole numbers, as they enter a ring
+abbrev pub whole4 : {N : Type 0} → CommRing N → ℤ → ℤ → ℤ → ℤ → Quaternion N
+whole4 k a b c d = record { a = whole k a; b = whole k b; c = whole k c; d = whole k d }
 
 module _ {N : Type 0} (o : Ops N) where
   open o use {add, mul, neg}

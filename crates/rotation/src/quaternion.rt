@@ -2,10 +2,10 @@
 ghost use Rattle.std.specs.Prelude.{◌≡◌};
 ghost use Rattle.std.specs.Option.{option_map};
 ghost use Rattle.linear.specs.Matrices.{matrix};
-ghost use Rattle.rotation.specs.Rotations.{quaternion, norm, rows, rotation};
+ghost use Rattle.rotation.specs.Rotations.{quaternion, whole4, norm, rows, rotation};
 
 use linear::Matrix3;
-use ring::Ring;
+use ring::{Ring, whole};
 use triple::Triple;
 
 #[derive(Clone, Copy)]
@@ -17,6 +17,18 @@ pub struct Quaternion<R> {
 }
 
 impl<R: Ring> Quaternion<R> {
+    // Four whole numbers, as they enter the ring.
+    pub fn whole(a: i64, b: i64, c: i64, d: i64) -> Quaternion<R>
+        ensures { quaternion R.Ring.value result ≡ whole4 R.Ring.ring a b c d }
+    {
+        Quaternion {
+            a: whole(a),
+            b: whole(b),
+            c: whole(c),
+            d: whole(d),
+        }
+    }
+
     // N = a a + b b + c c + d d.
     pub fn norm(self) -> R
         ensures { R.Ring.value result ≡ norm R.Ring.ring (quaternion R.Ring.value self) }

@@ -7,23 +7,6 @@ use spatial::Link;
 use symmetric::Symmetric3;
 use triple::Triple;
 
-pub fn triple<R: Ring>(x: i64, y: i64, z: i64) -> Triple<R> {
-    Triple {
-        x: whole(x),
-        y: whole(y),
-        z: whole(z),
-    }
-}
-
-fn turn<R: Ring>(a: R, b: i64, c: i64, d: i64) -> Quaternion<R> {
-    Quaternion {
-        a,
-        b: whole(b),
-        c: whole(c),
-        d: whole(d),
-    }
-}
-
 // J by its rows from the diagonal on.
 fn inertia<R: Ring>(top: Triple<R>, middle: (i64, i64), bottom: i64) -> Symmetric3<R> {
     Symmetric3 {
@@ -39,33 +22,33 @@ fn inertia<R: Ring>(top: Triple<R>, middle: (i64, i64), bottom: i64) -> Symmetri
 pub fn add_first<R: Ring>(rig: &mut Rig<R>, parent: i64) -> Result<usize, Refusal> {
     let link = Link {
         mass: whole(2),
-        first_moment: triple(5, 10, 15),
-        inertia: inertia(triple(1, 2, 3), (4, 5), 7),
+        first_moment: Triple::whole(5, 10, 15),
+        inertia: inertia(Triple::whole(1, 2, 3), (4, 5), 7),
     };
-    rig.add(parent, b'R', triple(1, 2, 3), turn(whole(1), 2, 3, 4), link)
+    rig.add(parent, b'R', Triple::whole(1, 2, 3), Quaternion::whole(1, 2, 3, 4), link)
 }
 
 // A revolute joint at the base's origin that is not turned.
 pub fn add_plain<R: Ring>(rig: &mut Rig<R>) -> Result<usize, Refusal> {
     let link = Link {
         mass: whole(1),
-        first_moment: triple(1, 0, 0),
-        inertia: inertia(triple(1, 0, 0), (1, 0), 1),
+        first_moment: Triple::whole(1, 0, 0),
+        inertia: inertia(Triple::whole(1, 0, 0), (1, 0), 1),
     };
-    rig.add(0, b'R', triple(0, 0, 0), turn(whole(1), 0, 0, 0), link)
+    rig.add(0, b'R', Triple::whole(0, 0, 0), Quaternion::whole(1, 0, 0, 0), link)
 }
 
 pub fn add_second<R: Ring>(rig: &mut Rig<R>, parent: i64, letter: u8) -> Result<usize, Refusal> {
     let link = Link {
         mass: whole(3),
-        first_moment: triple(1, 4, 2),
-        inertia: inertia(triple(2, 1, 1), (3, 2), 5),
+        first_moment: Triple::whole(1, 4, 2),
+        inertia: inertia(Triple::whole(2, 1, 1), (3, 2), 5),
     };
     rig.add(
         parent,
         letter,
-        triple(3, 1, 2),
-        turn(whole(2), 1, 0, 1),
+        Triple::whole(3, 1, 2),
+        Quaternion::whole(2, 1, 0, 1),
         link,
     )
 }
@@ -74,8 +57,8 @@ pub fn add_second<R: Ring>(rig: &mut Rig<R>, parent: i64, letter: u8) -> Result<
 pub fn add_third<R: Ring>(rig: &mut Rig<R>, parent: i64, size: R) -> Result<usize, Refusal> {
     let link = Link {
         mass: whole(4),
-        first_moment: triple(2, 1, 3),
-        inertia: inertia(triple(3, 1, 2), (6, 1), 4),
+        first_moment: Triple::whole(2, 1, 3),
+        inertia: inertia(Triple::whole(3, 1, 2), (6, 1), 4),
     };
     let turn = Quaternion {
         a: size,
@@ -83,5 +66,5 @@ pub fn add_third<R: Ring>(rig: &mut Rig<R>, parent: i64, size: R) -> Result<usiz
         c: size.add(size),
         d: R::zero(),
     };
-    rig.add(parent, b'R', triple(2, 5, 1), turn, link)
+    rig.add(parent, b'R', Triple::whole(2, 5, 1), turn, link)
 }

@@ -2,7 +2,7 @@
 #![tactic(auto)]
 
 use answers::{Done, Joint};
-use arm::{add_first, add_plain, add_second, add_third, triple};
+use arm::{add_first, add_plain, add_second, add_third};
 use numbers::List;
 use refusal::Refusal;
 use residue::RingA;
@@ -10,6 +10,7 @@ use rig::{Rig, Slot, Work};
 use ring::{Ring, whole};
 use std::fmt::Display;
 use std::io;
+use triple::Triple;
 use word::RingW;
 
 mod answers;
@@ -49,7 +50,7 @@ fn build(rt: &HostRuntime, rig: &mut Rig<RingA>) -> io::Result<()> {
 
 fn set(rt: &HostRuntime, rig: &mut Rig<RingA>) -> io::Result<()> {
     let answers = [
-        ("set_gravity 1 2 3", rig.set_gravity(triple(1, 2, 3))),
+        ("set_gravity 1 2 3", rig.set_gravity(Triple::whole(1, 2, 3))),
         ("set_position 1 2", rig.set_position(1, whole(2))),
         ("set_position 2 7", rig.set_position(2, whole(7))),
         ("set_position 3 3", rig.set_position(3, whole(3))),

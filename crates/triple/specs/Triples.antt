@@ -1,4 +1,7 @@
 -- Triples of numbers.
+use Rattle.std.specs.Prelude.{ℤ}
+use Rattle.ring.specs.CommRing.{CommRing}
+use Rattle.ring.specs.Whole.{whole}
 use Rattle.triple.specs.Ops.{Ops}
 use Rattle.triple.specs.declared.triple.Triple.{Triple}
 
@@ -43,3 +46,7 @@ module _ {N : Type 0} (o : Ops N) where
         y = sub (mul a.z b.x) (mul a.x b.z);
         z = sub (mul a.x b.y) (mul a.y b.x);
       }
+
+-- three whole numbers, as they enter a ring
+abbrev pub whole3 : {N : Type 0} → CommRing N → ℤ → ℤ → ℤ → Triple N
+whole3 k x y z = record { x = whole k x; y = whole k y; z = whole k z }

@@ -1,9 +1,9 @@
 // Triples of ring numbers.
 ghost use Rattle.std.specs.Prelude.{◌≡◌};
 ghost use Rattle.triple.specs.Ops.{ops};
-ghost use Rattle.triple.specs.Triples.{triple, zero3, third3, add3, neg3, sub3, scale3, dot3, cross3};
+ghost use Rattle.triple.specs.Triples.{triple, zero3, whole3, third3, add3, neg3, sub3, scale3, dot3, cross3};
 
-use ring::Ring;
+use ring::{Ring, whole};
 use std::ops::{Add, Neg, Sub};
 
 #[derive(Clone, Copy)]
@@ -64,6 +64,17 @@ impl<R: Ring> Triple<R> {
             x: zero,
             y: zero,
             z: zero,
+        }
+    }
+
+    // Three whole numbers, as they enter the ring.
+    pub fn whole(x: i64, y: i64, z: i64) -> Triple<R>
+        ensures { triple R.Ring.value result ≡ whole3 R.Ring.ring x y z }
+    {
+        Triple {
+            x: whole(x),
+            y: whole(y),
+            z: whole(z),
         }
     }
 

@@ -42,26 +42,13 @@ pub struct Lent<'a, R> {
     pub work: &'a mut [Work<R>],
 }
 
-fn triple<R: Ring>(x: i64, y: i64) -> Triple<R> {
-    Triple {
-        x: whole(x),
-        y: whole(y),
-        z: R::zero(),
-    }
-}
-
 fn add<R: Ring>(rig: &mut Rig<R>, parent: i64, body: Body) -> Result<usize, Refusal> {
     let (a, b, c, d) = body.turn;
-    let turn = Quaternion {
-        a: whole(a),
-        b: whole(b),
-        c: whole(c),
-        d: whole(d),
-    };
+    let turn = Quaternion::whole(a, b, c, d);
     let o = R::zero();
     let link = Link {
         mass: whole(body.mass),
-        first_moment: triple(body.moment, 0),
+        first_moment: Triple::whole(body.moment, 0, 0),
         inertia: Symmetric3 {
             xx: o,
             xy: o,
@@ -71,14 +58,14 @@ fn add<R: Ring>(rig: &mut Rig<R>, parent: i64, body: Body) -> Result<usize, Refu
             zz: whole(body.inertia),
         },
     };
-    rig.add(parent, body.letter, triple(0, 0), turn, link)
+    rig.add(parent, body.letter, Triple::whole(0, 0, 0), turn, link)
 }
 
 // A call that answers nothing answers 0 here.
 fn make<R: Ring>(rig: &mut Rig<R>, call: Call) -> Result<usize, Refusal> {
     let done = match call {
         Call::Add(parent, body) => return add(rig, parent, body),
-        Call::Gravity(y) => rig.set_gravity(triple(0, y)),
+        Call::Gravity(y) => rig.set_gravity(Triple::whole(0, y, 0)),
         Call::Position(joint, x) => rig.set_position(joint, whole(x)),
         Call::Rate(joint, x) => rig.set_rate(joint, whole(x)),
         Call::Acceleration(joint, x) => rig.set_acceleration(joint, whole(x)),
