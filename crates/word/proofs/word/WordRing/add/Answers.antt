@@ -1,5 +1,0 @@
-use Rattle.std.proofs.Common.{rules}
-use Rattle.word.proofs.word.WordRing.add.Goals as goal
-
-pub returns : goal.returns
-returns c = search rules
