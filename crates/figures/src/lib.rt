@@ -27,30 +27,13 @@ pub fn known_figures<R: Ring>()
 pub fn arm<R: Ring>(position: R, rate: R) -> Pendulum<R>
     ensures { pendulum R.Ring.value result ≡ described R.Ring.ring (R.Ring.value position) (R.Ring.value rate) }
 {
-    let zero = R::zero();
-    let two = whole(2);
     Pendulum {
         link: Link {
-            mass: two,
-            first_moment: Triple {
-                x: two,
-                y: zero,
-                z: zero,
-            },
-            inertia: Symmetric3 {
-                xx: zero,
-                xy: zero,
-                xz: zero,
-                yy: two,
-                yz: zero,
-                zz: two,
-            },
+            mass: whole(2),
+            first_moment: Triple::whole(2, 0, 0),
+            inertia: Symmetric3::whole(0, 0, 0, 2, 0, 2),
         },
-        gravity: Triple {
-            x: zero,
-            y: whole(-10),
-            z: zero,
-        },
+        gravity: Triple::whole(0, -10, 0),
         position,
         rate,
         acceleration: whole(3),
@@ -100,14 +83,7 @@ pub fn skew_arm() -> Pendulum<RingA>
         link: Link {
             mass: whole(2),
             first_moment: Triple::whole(5, 10, 15),
-            inertia: Symmetric3 {
-                xx: whole(1),
-                xy: whole(2),
-                xz: whole(3),
-                yy: whole(4),
-                yz: whole(5),
-                zz: whole(7),
-            },
+            inertia: Symmetric3::whole(1, 2, 3, 4, 5, 7),
         },
         gravity: Triple::whole(1, 2, 3),
         position: whole(2),

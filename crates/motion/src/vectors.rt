@@ -6,6 +6,7 @@ use ring::Ring;
 use std::ops::Add;
 use triple::Triple;
 
+// Dual to forces: two types, so that the one is not taken for the other, nor an angular part for a moment.
 #[derive(Clone, Copy)]
 pub struct Motion<R> {
     pub angular: Triple<R>,

@@ -14,6 +14,7 @@ use triple::Triple;
 
 // The numbers of a joint as given, with its state, and what was worked out from them when they were given:
 // the rotation of the fixed placement from `turn`, and from a revolute joint's position its cosine and its sine.
+// A joint's kind stands in its rig's table alone, so that a slot has both what a turn and what a slide would need.
 // Slot 0 is the base's: only its gravity counts, and that of no other slot.
 #[derive(Clone, Copy)]
 pub struct Slot<R> {

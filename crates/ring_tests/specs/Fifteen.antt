@@ -24,6 +24,13 @@ read n = record { at = n % 15; small = mod-lt n (omega arith) }
 abbrev pub fifteen_value : Fifteen → Number
 fifteen_value f = read f.digit
 
+-- a factor may be read modulo 15 before or after
+pub read_left : (a b : ℕ) → (a % 15) * b % 15 ≡ a * b % 15
+read_left a b = mul-mod_first a b 15
+
+pub read_right : (a b : ℕ) → a * (b % 15) % 15 ≡ a * b % 15
+read_right a b = mul-mod_second a b 15
+
 abbrev pub times : Number → Number → Number
 times x y = read (x.at * y.at)
 
@@ -74,15 +81,15 @@ fifteens =
       mul_assoc =
           λ x y z.
           number_eq _ _
-          (mul-mod_first (x.at * y.at) z.at 15
+          (read_left (x.at * y.at) z.at
           ∙ ap (λ n. n % 15) (mul_assoc x.at y.at z.at)
-          ∙ sym (mul-mod_second x.at (y.at * z.at) 15));
+          ∙ sym (read_right x.at (y.at * z.at)));
       mul_comm = λ x y. number_eq _ _ (ap (λ n. n % 15) (mul_comm x.at y.at));
       mul_one = λ x. number_eq _ _ (let h = x.small in omega arith);
       distrib =
           λ x y z.
           number_eq _ _
-          (mul-mod_second x.at (y.at + z.at) 15
+          (read_right x.at (y.at + z.at)
           ∙ ap (λ n. n % 15) (mul-add x.at y.at z.at)
           ∙ omega arith);
       apart = λ e. let h : ◌≡◌ {A = ℕ} 0 1 = ap (λ x. x.at) e in omega arith;

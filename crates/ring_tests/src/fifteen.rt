@@ -64,10 +64,6 @@ impl Ring for Fifteen {
     }
 
     fn part(self, i: usize) -> Option<u32> {
-        if i == 0 {
-            Some((self.digit % 15) as u32)
-        } else {
-            None
-        }
+        (i == 0).then_some((self.digit % 15) as u32)
     }
 }

@@ -7,64 +7,65 @@ use spatial::Link;
 use symmetric::Symmetric3;
 use triple::Triple;
 
-// J by its rows from the diagonal on.
-fn inertia<R: Ring>(top: Triple<R>, middle: (i64, i64), bottom: i64) -> Symmetric3<R> {
-    Symmetric3 {
-        xx: top.x,
-        xy: top.y,
-        xz: top.z,
-        yy: whole(middle.0),
-        yz: whole(middle.1),
-        zz: whole(bottom),
-    }
+// A joint by whole numbers: where it stands on its parent, how it is turned there, and its link.
+#[derive(Clone, Copy)]
+pub struct Body {
+    pub offset: (i64, i64, i64),
+    pub turn: (i64, i64, i64, i64),
+    pub mass: i64,
+    pub moment: (i64, i64, i64),
+    // J by its rows from the diagonal on.
+    pub inertia: (i64, i64, i64, i64, i64, i64),
 }
 
-pub fn add_first<R: Ring>(rig: &mut Rig<R>, parent: i64) -> Result<usize, Refusal> {
-    let link = Link {
-        mass: whole(2),
-        first_moment: Triple::whole(5, 10, 15),
-        inertia: inertia(Triple::whole(1, 2, 3), (4, 5), 7),
-    };
-    rig.add(parent, b'R', Triple::whole(1, 2, 3), Quaternion::whole(1, 2, 3, 4), link)
-}
+pub const FIRST: Body = Body {
+    offset: (1, 2, 3),
+    turn: (1, 2, 3, 4),
+    mass: 2,
+    moment: (5, 10, 15),
+    inertia: (1, 2, 3, 4, 5, 7),
+};
 
-// A revolute joint at the base's origin that is not turned.
-pub fn add_plain<R: Ring>(rig: &mut Rig<R>) -> Result<usize, Refusal> {
-    let link = Link {
-        mass: whole(1),
-        first_moment: Triple::whole(1, 0, 0),
-        inertia: inertia(Triple::whole(1, 0, 0), (1, 0), 1),
-    };
-    rig.add(0, b'R', Triple::whole(0, 0, 0), Quaternion::whole(1, 0, 0, 0), link)
-}
+// At its parent's origin, and not turned.
+pub const PLAIN: Body = Body {
+    offset: (0, 0, 0),
+    turn: (1, 0, 0, 0),
+    mass: 1,
+    moment: (1, 0, 0),
+    inertia: (1, 0, 0, 1, 0, 1),
+};
 
-pub fn add_second<R: Ring>(rig: &mut Rig<R>, parent: i64, letter: u8) -> Result<usize, Refusal> {
-    let link = Link {
-        mass: whole(3),
-        first_moment: Triple::whole(1, 4, 2),
-        inertia: inertia(Triple::whole(2, 1, 1), (3, 2), 5),
-    };
-    rig.add(
-        parent,
-        letter,
-        Triple::whole(3, 1, 2),
-        Quaternion::whole(2, 1, 0, 1),
-        link,
-    )
-}
+pub const SECOND: Body = Body {
+    offset: (3, 1, 2),
+    turn: (2, 1, 0, 1),
+    mass: 3,
+    moment: (1, 4, 2),
+    inertia: (2, 1, 1, 3, 2, 5),
+};
 
-// Turned by (1, 1, 2, 0) times `size`.
-pub fn add_third<R: Ring>(rig: &mut Rig<R>, parent: i64, size: R) -> Result<usize, Refusal> {
+pub const THIRD: Body = Body {
+    offset: (2, 5, 1),
+    turn: (1, 1, 2, 0),
+    mass: 4,
+    moment: (2, 1, 3),
+    inertia: (3, 1, 2, 6, 1, 4),
+};
+
+pub fn add<R: Ring>(
+    rig: &mut Rig<R>,
+    parent: i64,
+    letter: u8,
+    body: Body,
+) -> Result<usize, Refusal> {
+    let (x, y, z) = body.offset;
+    let (a, b, c, d) = body.turn;
+    let (hx, hy, hz) = body.moment;
+    let (xx, xy, xz, yy, yz, zz) = body.inertia;
     let link = Link {
-        mass: whole(4),
-        first_moment: Triple::whole(2, 1, 3),
-        inertia: inertia(Triple::whole(3, 1, 2), (6, 1), 4),
+        mass: whole(body.mass),
+        first_moment: Triple::whole(hx, hy, hz),
+        inertia: Symmetric3::whole(xx, xy, xz, yy, yz, zz),
     };
-    let turn = Quaternion {
-        a: size,
-        b: size,
-        c: size.add(size),
-        d: R::zero(),
-    };
-    rig.add(parent, b'R', Triple::whole(2, 5, 1), turn, link)
+    let offset = Triple::whole(x, y, z);
+    rig.add(parent, letter, offset, Quaternion::whole(a, b, c, d), link)
 }

@@ -2,7 +2,7 @@
 #![tactic(auto)]
 
 use answers::{Done, Joint};
-use arm::{add_first, add_plain, add_second, add_third};
+use arm::{Body, FIRST, PLAIN, SECOND, THIRD, add};
 use numbers::List;
 use refusal::Refusal;
 use residue::RingA;
@@ -30,17 +30,18 @@ fn report<T: Display + Drop>(
 
 // Three joints, and each way in which adding is refused.
 fn build(rt: &HostRuntime, rig: &mut Rig<RingA>) -> io::Result<()> {
+    let unturned = Body {
+        turn: (0, 0, 0, 0),
+        ..THIRD
+    };
     let answers = [
-        ("add 0 R", add_first(rig, 0)),
-        ("add 1 P", add_second(rig, 1, b'P')),
-        (
-            "add 5 R, with two joints there",
-            add_third(rig, 5, whole(1)),
-        ),
-        ("add 1 X", add_second(rig, 1, b'X')),
-        ("add 1 R, turned by 0 0 0 0", add_third(rig, 1, whole(0))),
-        ("add 1 R", add_third(rig, 1, whole(1))),
-        ("add 0 R, with no slot left", add_first(rig, 0)),
+        ("add 0 R", add(rig, 0, b'R', FIRST)),
+        ("add 1 P", add(rig, 1, b'P', SECOND)),
+        ("add 5 R, with two joints there", add(rig, 5, b'R', THIRD)),
+        ("add 1 X", add(rig, 1, b'X', SECOND)),
+        ("add 1 R, turned by 0 0 0 0", add(rig, 1, b'R', unturned)),
+        ("add 1 R", add(rig, 1, b'R', THIRD)),
+        ("add 0 R, with no slot left", add(rig, 0, b'R', FIRST)),
     ];
     for (call, answer) in answers {
         report(rt, call, answer.map(Joint))?;
@@ -96,7 +97,7 @@ fn show(rt: &HostRuntime, rig: &Rig<RingA>) -> io::Result<()> {
 fn show_positions(rt: &HostRuntime) -> io::Result<()> {
     let mut slots = [Slot::<RingW>::blank(); 2];
     let mut rig = Rig::new(&mut slots);
-    report(rt, "add 0 R", add_plain(&mut rig).map(Joint))?;
+    report(rt, "add 0 R", add(&mut rig, 0, b'R', PLAIN).map(Joint))?;
     let answer = rig.set_position(1, whole(1));
     report(rt, "set_position 1 1", answer.map(|()| Done))?;
     let answer = rig.set_position(1, whole(2));

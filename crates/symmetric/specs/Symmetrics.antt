@@ -1,4 +1,7 @@
 -- Symmetric matrices of three rows, by their six entries.
+use Rattle.std.specs.Prelude.{ℤ}
+use Rattle.ring.specs.CommRing.{CommRing}
+use Rattle.ring.specs.Whole.{whole}
 use Rattle.triple.specs.Ops.{Ops}
 use Rattle.triple.specs.Triples.{dot3, cross3}
 use Rattle.triple.specs.declared.triple.Triple.{Triple}
@@ -10,6 +13,11 @@ use Rattle.symmetric.specs.declared.symmetric.Symmetric3.{Symmetric3}
 abbrev pub symmetric : {S N : Type 0} → (S → N) → Symmetric3 S → Symmetric3 N
 symmetric f s =
     record { xx = f s.xx; xy = f s.xy; xz = f s.xz; yy = f s.yy; yz = f s.yz; zz = f s.zz }
+
+-- six whole numbers, as they enter a ring
+abbrev pub whole6 : {N : Type 0} → CommRing N → ℤ → ℤ → ℤ → ℤ → ℤ → ℤ → Symmetric3 N
+whole6 k xx xy xz yy yz zz =
+    record { xx = whole k xx; xy = whole k xy; xz = whole k xz; yy = whole k yy; yz = whole k yz; zz = whole k zz }
 
 -- all nine entries
 abbrev pub full : {N : Type 0} → Symmetric3 N → Matrix3 N

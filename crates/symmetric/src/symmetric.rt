@@ -3,10 +3,10 @@ ghost use Rattle.std.specs.Prelude.{◌≡◌};
 ghost use Rattle.triple.specs.Ops.{ops};
 ghost use Rattle.triple.specs.Triples.{triple};
 ghost use Rattle.linear.specs.Matrices.{matrix, times};
-ghost use Rattle.symmetric.specs.Symmetrics.{symmetric, full, symmetric_add, symmetric_conjugate, symmetric_minus_outer, leaned};
+ghost use Rattle.symmetric.specs.Symmetrics.{symmetric, whole6, full, symmetric_add, symmetric_conjugate, symmetric_minus_outer, leaned};
 
 use linear::Matrix3;
-use ring::Ring;
+use ring::{Ring, whole};
 use std::ops::Add;
 use triple::Triple;
 
@@ -63,6 +63,20 @@ impl<R: Ring> From<Symmetric3<R>> for Matrix3<R> {
 }
 
 impl<R: Ring> Symmetric3<R> {
+    // Six whole numbers, as they enter the ring.
+    pub fn whole(xx: i64, xy: i64, xz: i64, yy: i64, yz: i64, zz: i64) -> Symmetric3<R>
+        ensures { symmetric R.Ring.value result ≡ whole6 R.Ring.ring xx xy xz yy yz zz }
+    {
+        Symmetric3 {
+            xx: whole(xx),
+            xy: whole(xy),
+            xz: whole(xz),
+            yy: whole(yy),
+            yz: whole(yz),
+            zz: whole(zz),
+        }
+    }
+
     // 9 products.
     pub fn apply(self, a: Triple<R>) -> Triple<R>
         ensures { triple R.Ring.value result ≡ times (ops R.Ring.ring) (full (symmetric R.Ring.value self)) (triple R.Ring.value a) }

@@ -28,16 +28,16 @@ impl<R: Ring> Slide<R> {
     {
         Motion {
             angular: m.angular,
-            linear: moved(self.length, m.angular, m.linear),
+            linear: self.moved(m.angular, m.linear),
         }
     }
 
-    // A force, carried back out of the slid frame, so by the opposite length: 2 products.
+    // A force, carried back out of the slid frame: 2 products.
     pub fn inward(self, w: Force<R>) -> Force<R>
         ensures { force R.Ring.value result ≡ inward R.Ring.ring (slid R.Ring.ring (R.Ring.value self.length)) (force R.Ring.value w) }
     {
         Force {
-            moment: moved(self.length.neg(), w.linear, w.moment),
+            moment: self.back().moved(w.linear, w.moment),
             linear: w.linear,
         }
     }
@@ -46,62 +46,74 @@ impl<R: Ring> Slide<R> {
     pub fn carried(self, a: Inertia<R>) -> Inertia<R>
         ensures { inertia R.Ring.value result ≡ carried R.Ring.ring (slid R.Ring.ring (R.Ring.value self.length)) (inertia R.Ring.value a) }
     {
-        let coupling = slid_coupling(self.length, a.coupling, a.linear);
+        let coupling = self.coupling(a.coupling, a.linear);
         Inertia {
-            angular: slid_angular(self.length, a.coupling, coupling, a.angular),
+            angular: self.angular(a.coupling, coupling, a.angular),
             coupling,
             linear: a.linear,
         }
     }
-}
 
-// a - (0, 0, q) × b
-fn moved<R: Ring>(q: R, b: Triple<R>, a: Triple<R>) -> Triple<R>
-    ensures { triple R.Ring.value result ≡ moved3 (ops R.Ring.ring) (R.Ring.value q) (triple R.Ring.value b) (triple R.Ring.value a) }
-{
-    Triple {
-        x: q.mul_add(b.y, a.x),
-        y: a.y.sub(q.mul(b.x)),
-        z: a.z,
+    // The opposite slide.
+    fn back(self) -> Slide<R>
+        ensures { R.Ring.value result.length ≡ R.Ring.ring.neg (R.Ring.value self.length) }
+    {
+        Slide {
+            length: self.length.neg(),
+        }
     }
-}
 
-// c + (0, 0, q) × each column of l: 5 products.
-fn slid_coupling<R: Ring>(q: R, c: Matrix3<R>, l: Symmetric3<R>) -> Matrix3<R>
-    ensures { matrix R.Ring.value result ≡ slid_coupling (ops R.Ring.ring) (R.Ring.value q) (matrix R.Ring.value c) (symmetric R.Ring.value l) }
-{
-    let t = q.mul(l.xy);
-    Matrix3 {
-        x: Triple {
-            x: c.x.x.sub(t),
-            y: c.x.y.sub(q.mul(l.yy)),
-            z: c.x.z.sub(q.mul(l.yz)),
-        },
-        y: Triple {
-            x: q.mul_add(l.xx, c.y.x),
-            y: c.y.y.add(t),
-            z: q.mul_add(l.xz, c.y.z),
-        },
-        z: c.z,
+    // a - (0, 0, q) × b, where q is the length.
+    fn moved(self, b: Triple<R>, a: Triple<R>) -> Triple<R>
+        ensures { triple R.Ring.value result ≡ moved3 (ops R.Ring.ring) (R.Ring.value self.length) (triple R.Ring.value b) (triple R.Ring.value a) }
+    {
+        let q = self.length;
+        Triple {
+            x: q.mul_add(b.y, a.x),
+            y: a.y.sub(q.mul(b.x)),
+            z: a.z,
+        }
     }
-}
 
-// The block of moments, from the couplings before and after: 5 products.
-fn slid_angular<R: Ring>(q: R, c: Matrix3<R>, d: Matrix3<R>, s: Symmetric3<R>) -> Symmetric3<R>
-    ensures { symmetric R.Ring.value result ≡ slid_angular (ops R.Ring.ring) (R.Ring.value q) (matrix R.Ring.value c) (matrix R.Ring.value d) (symmetric R.Ring.value s) }
-{
-    let Matrix3 { x: cx, y: cy, .. } = c;
-    let Matrix3 {
-        x: dx,
-        y: dy,
-        z: dz,
-    } = d;
-    Symmetric3 {
-        xx: s.xx.sub(q.mul(cx.y.add(dx.y))),
-        xy: q.mul_add(cx.x.sub(dy.y), s.xy),
-        xz: s.xz.sub(q.mul(dz.y)),
-        yy: q.mul_add(cy.x.add(dy.x), s.yy),
-        yz: q.mul_add(dz.x, s.yz),
-        zz: s.zz,
+    // c + (0, 0, q) × each column of l: 5 products.
+    fn coupling(self, c: Matrix3<R>, l: Symmetric3<R>) -> Matrix3<R>
+        ensures { matrix R.Ring.value result ≡ slid_coupling (ops R.Ring.ring) (R.Ring.value self.length) (matrix R.Ring.value c) (symmetric R.Ring.value l) }
+    {
+        let q = self.length;
+        let t = q.mul(l.xy);
+        Matrix3 {
+            x: Triple {
+                x: c.x.x.sub(t),
+                y: c.x.y.sub(q.mul(l.yy)),
+                z: c.x.z.sub(q.mul(l.yz)),
+            },
+            y: Triple {
+                x: q.mul_add(l.xx, c.y.x),
+                y: c.y.y.add(t),
+                z: q.mul_add(l.xz, c.y.z),
+            },
+            z: c.z,
+        }
+    }
+
+    // The block of moments, from the couplings before and after: 5 products.
+    fn angular(self, c: Matrix3<R>, d: Matrix3<R>, s: Symmetric3<R>) -> Symmetric3<R>
+        ensures { symmetric R.Ring.value result ≡ slid_angular (ops R.Ring.ring) (R.Ring.value self.length) (matrix R.Ring.value c) (matrix R.Ring.value d) (symmetric R.Ring.value s) }
+    {
+        let q = self.length;
+        let Matrix3 { x: cx, y: cy, .. } = c;
+        let Matrix3 {
+            x: dx,
+            y: dy,
+            z: dz,
+        } = d;
+        Symmetric3 {
+            xx: s.xx.sub(q.mul(cx.y.add(dx.y))),
+            xy: q.mul_add(cx.x.sub(dy.y), s.xy),
+            xz: s.xz.sub(q.mul(dz.y)),
+            yy: q.mul_add(cy.x.add(dy.x), s.yy),
+            yz: q.mul_add(dz.x, s.yz),
+            zz: s.zz,
+        }
     }
 }

@@ -7,6 +7,7 @@ ghost use Rattle.word.specs.Words.{words, words_big, word_value, word_parts_tell
 
 use ring::Ring;
 
+// No `Residue`, as 2^32 is no u32; nothing is reduced to compare, and Newton inverts.
 #[derive(Clone, Copy)]
 pub struct Word {
     pub word: u32,
@@ -91,7 +92,7 @@ impl Ring for Word {
     }
 
     fn part(self, i: usize) -> Option<u32> {
-        if i == 0 { Some(self.word) } else { None }
+        (i == 0).then_some(self.word)
     }
 
     fn natural(n: u64) -> Word {

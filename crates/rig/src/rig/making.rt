@@ -42,7 +42,7 @@ impl<'a, R: Ring> Rig<'a, R> {
         }
     }
 
-    // One joint more, at rest: answers its number.
+    // One joint more, at rest: answers its number. Any byte may be a caller's letter, and gets its answer.
     pub fn add(
         &mut self,
         parent: i64,

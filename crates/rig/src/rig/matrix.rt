@@ -47,7 +47,7 @@ impl<'a, R: Ring> Rig<'a, R> {
         }
     }
 
-    // Inward from the last joint: K S is felt on the way to the base, and K is carried to the parent's.
+    // Inward from the last joint: K S gives entries on the way to the base, and K is carried to the parent's.
     fn composites(&self, res: &mut [R], work: &mut [Work<R>])
         requires room { self.now.n * self.now.n ≤ length res.old }
         requires long { self.now.n < length work.old }

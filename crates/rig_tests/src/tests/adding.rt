@@ -13,6 +13,17 @@ pub const HINGE: Body = Body {
     inertia: 1,
 };
 
+// A prismatic joint, not turned, whose link has a mass alone.
+pub fn slide(mass: i64) -> Body {
+    Body {
+        letter: b'P',
+        turn: (1, 0, 0, 0),
+        mass,
+        moment: 0,
+        inertia: 0,
+    }
+}
+
 fn with_letter(letter: u8) -> Body {
     Body { letter, ..HINGE }
 }

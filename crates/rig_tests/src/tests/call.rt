@@ -4,6 +4,7 @@ use rig::{Rig, Slot, Work};
 use ring::{Ring, whole};
 use rotation::Quaternion;
 use spatial::Link;
+use std::iter::repeat;
 use std::process::Abort;
 use symmetric::Symmetric3;
 use triple::Triple;
@@ -45,18 +46,11 @@ pub struct Lent<'a, R> {
 fn add<R: Ring>(rig: &mut Rig<R>, parent: i64, body: Body) -> Result<usize, Refusal> {
     let (a, b, c, d) = body.turn;
     let turn = Quaternion::whole(a, b, c, d);
-    let o = R::zero();
+    let j = body.inertia;
     let link = Link {
         mass: whole(body.mass),
         first_moment: Triple::whole(body.moment, 0, 0),
-        inertia: Symmetric3 {
-            xx: o,
-            xy: o,
-            xz: o,
-            yy: whole(body.inertia),
-            yz: o,
-            zz: whole(body.inertia),
-        },
+        inertia: Symmetric3::whole(0, 0, 0, j, 0, j),
     };
     rig.add(parent, body.letter, Triple::whole(0, 0, 0), turn, link)
 }
@@ -134,8 +128,8 @@ pub fn check_entries<R: Ring>(
 }
 
 fn check_parts<R: Ring>(rt: &impl Abort, shown: &[R], expected: &[u32]) {
-    for (i, number) in shown.iter().enumerate() {
-        let part = expected.get(i).copied().unwrap_or(0);
+    let parts = expected.iter().copied().chain(repeat(0));
+    for (number, part) in shown.iter().zip(parts) {
         assert_eq!(rt; number.part(0), Some(part));
     }
 }

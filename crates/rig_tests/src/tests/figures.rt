@@ -1,19 +1,10 @@
 // Figures that are known beforehand, through the calls of a rig.
+use super::adding::slide;
 use super::call::{Body, Call, Lent, Show, check_entries};
 use residue::RingA;
 use rig::{Slot, Work};
 use ring::Ring;
 use word::RingW;
-
-fn slide(mass: i64) -> Body {
-    Body {
-        letter: b'P',
-        turn: (1, 0, 0, 0),
-        mass,
-        moment: 0,
-        inertia: 0,
-    }
-}
 
 // The swing: one revolute joint, gravity (0, -10, 0), rate 5, acceleration 3.
 #[test]

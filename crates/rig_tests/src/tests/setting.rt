@@ -1,25 +1,17 @@
 // The five settings: which joints there are, and which positions.
-use super::adding::HINGE;
-use super::call::{Body, Call, check_calls};
+use super::adding::{HINGE, slide};
+use super::call::{Call, check_calls};
 use refusal::Refusal;
 use residue::{RingA, RingB};
 use rig::Slot;
 use std::process::Abort;
 use word::RingW;
 
-const SLIDE: Body = Body {
-    letter: b'P',
-    turn: (1, 0, 0, 0),
-    mass: 1,
-    moment: 0,
-    inertia: 0,
-};
-
 fn check_joint(rt: &impl Abort, joint: i64, answer: Result<usize, Refusal>) {
     let table = [
         (Call::Rate(1, 5), Err(Refusal::NoJoint)),
         (Call::Add(0, HINGE), Ok(1)),
-        (Call::Add(1, SLIDE), Ok(2)),
+        (Call::Add(1, slide(1)), Ok(2)),
         (Call::Position(joint, 5), answer),
         (Call::Rate(joint, 5), answer),
         (Call::Acceleration(joint, 5), answer),
@@ -43,7 +35,7 @@ fn joints(rt: HostRuntime) {
 fn positions(rt: HostRuntime) {
     let table = [
         (Call::Add(0, HINGE), Ok(1)),
-        (Call::Add(1, SLIDE), Ok(2)),
+        (Call::Add(1, slide(1)), Ok(2)),
         (Call::Add(2, HINGE), Ok(3)),
         (Call::Position(1, 1), Err(Refusal::NoPosition(1))),
         (Call::Position(1, 2), Ok(0)),
