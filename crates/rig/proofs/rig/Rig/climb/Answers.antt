@@ -20,15 +20,10 @@ joint-joint-requires g c =
     let low = c.steps.invariant.1.low in
     (c.steps.invariant.0, omega (arith, low, c.requires.joint.0, c.requires.joint.1, c.steps.invariant.0))
 
-pub put_both-requires : goal.put_both-requires
-put_both-requires g c =
+pub put_both-requires-clause-column : goal.put_both-requires-clause-column
+put_both-requires-clause-column g c =
     let low = c.steps.invariant.1.low in
-    record {
-      few = c.args.self.now.few;
-      row = omega (arith, c.requires.joint.0, c.requires.joint.1);
-      column = omega (arith, low, c.requires.joint.0, c.requires.joint.1, c.steps.invariant.0);
-      room = let same = c.steps.auto.res in subst (λ m. c.args.self.now.n * c.args.self.now.n ≤ m) (sym same) c.requires.room;
-    }
+    omega (arith, low, c.requires.joint.0, c.requires.joint.1, c.steps.invariant.0)
 
 pub returns-then-p-eq0 : goal.returns-then-p-eq0
 returns-then-p-eq0 g c =

@@ -1,4 +1,4 @@
-use Rattle.std.proofs.Common.{◌≡◌, ◌<◌, ◌≤◌, List, [], ◌∷◌, length, get_or, set, refl, arith}
+use Rattle.std.proofs.Common.{◌≡◌, ◌<◌, ◌≤◌, List, [], ◌∷◌, length, get_or, set, arith}
 use Rattle.ring.specs.CommRing.{CommRing}
 use Rattle.triple.specs.Ops.{ops}
 use Rattle.triple.specs.Triples.{triple, zero3}
@@ -18,20 +18,13 @@ begun_none : {S N : Type 0} (k : CommRing N) (v : S → N) (xs ys : List (Slot S
 begun_none k v [] ys l e = e
 begun_none k v (x ∷ xs) ys l e = absurd (omega arith)
 
-pub returns : goal.returns
-returns g c =
+pub returns-clause-slots : goal.returns-clause-slots
+returns-clause-slots g c =
     let k = g.R.Ring.ring in
     let v = g.R.Ring.value in
-    record {
-      n = refl;
-      table = refl;
-      slots =
-          elim c.if-slots-gt0.branch [
-            | then-slots-gt0 w ↦
-                begun k v c.args.slots.now c.if-slots-gt0.slots w.zero.result w.index-slots-0.result w.zero.ensures
-                w.if-slots-gt0.true w.slots-is
-            | else-slots-gt0 w ↦ begun_none k v c.args.slots.now c.if-slots-gt0.slots w.if-slots-gt0.false w.slots-is
-          ];
-      given = λ i l. absurd (omega arith);
-      lent = refl;
-    }
+    elim c.if-slots-gt0.branch [
+      | then-slots-gt0 w ↦
+          begun k v c.args.slots.now c.if-slots-gt0.slots w.zero.result w.index-slots-0.result w.zero.ensures
+          w.if-slots-gt0.true w.slots-is
+      | else-slots-gt0 w ↦ begun_none k v c.args.slots.now c.if-slots-gt0.slots w.if-slots-gt0.false w.slots-is
+    ]
