@@ -79,6 +79,10 @@ left_none i j none = omega arith
 pub above : (i : ℕ) → 1 ≤ i → i ≡ suc (i - 1)
 above i low = omega arith
 
+-- the entry before one that is there
+pub before : {X : Type 0} (xs : List X) (i : ℕ) → i < length xs → i - 1 < length xs
+before xs i there = omega arith
+
 -- a joint has a slot
 pub slot_there : {X : Type 0} (xs : List X) (n i : ℕ) → 1 ≤ i → i ≤ n → n ≤ length xs - 1 → i < length xs
 slot_there xs n i low high fit = omega arith

@@ -1,9 +1,9 @@
-use Rattle.std.proofs.Common.{◌≡◌, ◌<◌, length, get_or, pos, sym, refl, ◌∙◌, subst, w64, to_z, of_z, rules}
+use Rattle.std.proofs.Common.{◌≡◌, ◌-◌, ◌<◌, length, get_or, pos, sym, refl, ◌∙◌, subst, w64, to_z, of_z, rules}
 use Rattle.std.proofs.lemmas.Int.{to_z-of_z}
 use Rattle.std.proofs.lemmas.List.{get_or_default}
 use Rattle.std.specs.Fn.{FnOnceReturnsAtMut}
 use Rattle.rig.specs.Questions.{joint_number}
-use Rattle.rig.proofs.Asked.{within_some, slot_there, set_at}
+use Rattle.rig.proofs.Asked.{within_some, slot_there, before, set_at}
 use Rattle.rig.proofs.rig.Rig.change.Goals as goal
 
 pub offset_bounds-slots-i : goal.offset_bounds-slots-i
@@ -11,6 +11,8 @@ offset_bounds-slots-i g c =
     let s = c.args.self.now in
     let h = within_some 1 s.n (to_z w64 (of_z w64 c.args.joint)) c.in_ok-i.ensures.ok_part c.within.ensures in
     let l : c.in_ok-i.i < length s.slots.now = slot_there s.slots.now s.n c.in_ok-i.i h.1 h.2 s.fit in
+    -- the slot before it is there too, so that a write there is refused for what it changes
+    let b : c.in_ok-i.i - 1 < length s.slots.now = before s.slots.now c.in_ok-i.i l in
     search rules
 
 pub returns-clause-after : goal.returns-clause-after
