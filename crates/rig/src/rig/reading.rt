@@ -1,8 +1,9 @@
 // Reading what a rig holds, joint by joint.
-ghost use Rattle.std.specs.Prelude.{◌≡◌, ℕ, ◌-◌, ◌<◌, ◌≤◌};
+ghost use Rattle.std.specs.Prelude.{◌≡◌, ℕ, ◌-◌, ◌<◌, ◌≤◌, slice_index_or};
 ghost use Rattle.pose.specs.Poses.{pose, posed};
 ghost use Rattle.rig.specs.Slots.{slot, slot_joint};
 ghost use Rattle.rig.specs.Holds.{HeldAt, rig_holds};
+ghost use Rattle.rig.specs.declared.slot.Slot.{Slot as Slots};
 
 use crate::rig::Rig;
 use crate::slot::Slot;
@@ -28,6 +29,7 @@ impl<'a, R: Ring> Rig<'a, R> {
     pub(crate) fn joint(&self, i: usize) -> HeldJoint<'_, R>
         requires { (0 < i) × (i ≤ self.now.n) }
         ensures is { HeldAt R.Ring.ring R.Ring.value (rig_holds R.Ring.ring R.Ring.value self.now) i result.row result.slot.now }
+        ensures same { (d : Slots R) → result.slot.now ≡ slice_index_or self.now.slots.now i d }
         ensures low { result.row.parent < i }
     {
         let slots = &*self.slots;

@@ -7,23 +7,19 @@ use rig::{Rig, Slot, Work};
 use ring::Ring;
 use std::process::Abort;
 
-// A show into the first entries of two lists of 24.
-fn show_part(rig: &Rig<RingA>, show: Show, results: usize, works: usize) -> Result<(), Refusal> {
-    let mut shown = [RingA::zero(); 24];
-    let mut work = [Work::<RingA>::blank(); 24];
-    let shown = &mut shown[..results.min(24)];
-    let work = &mut work[..works.min(24)];
-    show_into(rig, show, shown, work)
-}
-
-// Each show, with the lengths of its result list and its work list, answers as the table says.
+// Each show into the first entries of two lists of 24, with how many of each, answers as the table says. The lists are
+// not cleared between two shows.
 fn check_shows(
     rt: &impl Abort,
     rig: &Rig<RingA>,
     table: &[(Show, usize, usize, Result<(), Refusal>)],
 ) {
+    let mut shown = [RingA::zero(); 24];
+    let mut work = [Work::<RingA>::blank(); 24];
     for (show, results, works, expected) in table {
-        assert_eq!(rt; show_part(rig, *show, *results, *works), *expected);
+        let shown = &mut shown[..(*results).min(24)];
+        let work = &mut work[..(*works).min(24)];
+        assert_eq!(rt; show_into(rig, *show, shown, work), *expected);
     }
 }
 
