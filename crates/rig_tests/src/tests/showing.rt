@@ -7,19 +7,20 @@ use rig::{Rig, Slot, Work};
 use ring::Ring;
 use std::process::Abort;
 
-// Each show into the first entries of two lists of 24, with how many of each, answers as the table says. The lists are
-// not cleared between two shows.
+// Each show into the first entries of two lists, with how many of each, answers as the table says. The lists are not
+// cleared between two shows.
 fn check_shows(
     rt: &impl Abort,
     rig: &Rig<RingA>,
+    shown: &mut [RingA],
+    work: &mut [Work<RingA>],
     table: &[(Show, usize, usize, Result<(), Refusal>)],
 ) {
-    let mut shown = [RingA::zero(); 24];
-    let mut work = [Work::<RingA>::blank(); 24];
     for (show, results, works, expected) in table {
-        let shown = &mut shown[..(*results).min(24)];
-        let work = &mut work[..(*works).min(24)];
-        assert_eq!(rt; show_into(rig, *show, shown, work), *expected);
+        let results = (*results).min(shown.len());
+        let works = (*works).min(work.len());
+        let answer = show_into(rig, *show, &mut shown[..results], &mut work[..works]);
+        assert_eq!(rt; answer, *expected);
     }
 }
 
@@ -27,13 +28,15 @@ fn check_shows(
 fn lengths(rt: HostRuntime) {
     let mut slots = [Slot::<RingA>::blank(); 9];
     let mut rig = Rig::new(&mut slots);
+    let mut shown = [RingA::zero(); 24];
+    let mut work = [Work::<RingA>::blank(); 24];
     let none = [
         (Show::Torques, 0, 0, Err(Refusal::ShortWork)),
         (Show::Matrix, 0, 0, Err(Refusal::ShortWork)),
         (Show::Torques, 0, 1, Ok(())),
         (Show::Matrix, 0, 1, Ok(())),
     ];
-    check_shows(&rt, &rig, &none);
+    check_shows(&rt, &rig, &mut shown, &mut work, &none);
     let joints = [(Call::Add(0, HINGE), Ok(1)), (Call::Add(1, HINGE), Ok(2))];
     check_calls_on(&rt, &mut rig, &joints);
     let two = [
@@ -48,7 +51,7 @@ fn lengths(rt: HostRuntime) {
         (Show::Matrix, 4, 3, Ok(())),
         (Show::Matrix, 7, 4, Ok(())),
     ];
-    check_shows(&rt, &rig, &two);
+    check_shows(&rt, &rig, &mut shown, &mut work, &two);
 }
 
 // Without joints nothing is shown, and no entry is touched.
